@@ -1,0 +1,4 @@
+pub mod Above
+pub mod Checked
+pub mod Lookup
+pub mod Meet

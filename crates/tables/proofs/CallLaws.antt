@@ -1,0 +1,178 @@
+-- The checks of a call, and what find and inspect say of sound tables.
+--     check-given, check-holds, check-refused     a call that gives something has passed its check; what is so before and after the rest; a refused call leaves the tables
+--     refused-…                      a refused call writes to no table
+--     find-sound                     on sound tables find gives the lookup, a rule with its handling number; so it never refuses by 10: find-never-10
+--     lowest-fails                   where not all pass, `lowest` is the lowest number that fails
+--     inspect-sound                  inspect says sound exactly if the tables are sound
+-- Assumes nothing.
+use mathlib.Core.Path.{_≡_, refl, sym, _∙_, ap, subst}
+use mathlib.Core.Bool.{Bool, true, false, _&&_, not, true≢false, false≢true}
+use mathlib.Core.Logic.{_≢_, _↔_}
+use mathlib.Core.List.{List}
+use Prim.Native.Nat.{ℕ, zero, suc, _+_, _-_, _*_, _<_, _≤_}
+use native.Mathlib.Omega.{arith}
+use borrow.Author.Tests.{ne-eqb, le-leb, lt-leb, lt-ltb, not-true, eqb-false}
+use lib.Dec.{eqb, leb}
+use lib.ListN.{length, getD}
+use Rattle.inheritance.specs.declared.Lookup.{Lookup}
+use Rattle.inheritance.specs.declared.Lookup.the-variants.{None, Rule, Dispute}
+use Rattle.inheritance.specs.Lookup.{lookup}
+use Rattle.inheritance.proofs.LookupLaws.{InRange, lookup-range}
+use Rattle.tables.specs.Entry.{entryOf}
+use Rattle.tables.specs.Reply.{Reply, refused, given, Finding, Fault}
+use Rattle.tables.specs.Tables.{Tables, shaped, upOf, ownOf, entryAt, all-below, byte-right, kind-free, entry-right, well-linked, sound}
+use Rattle.tables.specs.Calls as calls
+use Rattle.tables.specs.Calls.{Outcome, check, leaves, findingOf, handled, lowest, firstFault, faultOf}
+use Rattle.tables.proofs.ShapeLaws.{shape-true}
+use Rattle.tables.proofs.SoundLaws.{sound-means, entries-looked}
+use Rattle.tables.proofs.TableLaws.{below-true}
+
+-- ---- checks
+
+given-not-refused : {A : Type 0} (a : A) (number : ℕ) → given a ≡ refused number → ⊥
+given-not-refused a number e = let never : _≡_ {A = ℕ} 0 1 = cc in omega arith
+
+module _ {A : Type 0} (number : ℕ) (t : Tables) (next : Outcome A) where
+  -- what holds of the tables that the rest leaves, where the test is passed, holds of those of the whole
+  pub check-given : (P : Tables → Type 0) (b : Bool) {a : A} → (b ≡ true → next .reply ≡ given a → P (next .tables))
+      → check number b t next .reply ≡ given a → P (check number b t next .tables)
+  unfolding check
+  check-given P true rest is = rest refl is
+  check-given P false {a} rest is = absurd (given-not-refused a number (sym is))
+
+  -- what holds of the tables before, and of those that the rest leaves, holds of those of the whole
+  pub check-holds : (P : Tables → Type 0) (b : Bool) → P t → (b ≡ true → P (next .tables)) → P (check number b t next .tables)
+  unfolding check
+  check-holds P true before rest = rest refl
+  check-holds P false before rest = before
+
+  -- where a refusal of the rest leaves the tables, so does one of the whole
+  pub check-refused : (b : Bool) → ((r : ℕ) → next .reply ≡ refused r → next .tables ≡ t) → (r : ℕ) → check number b t next .reply ≡ refused r → check number b t next .tables ≡ t
+  unfolding check
+  check-refused true rest = rest
+  check-refused false rest = λ r e. refl
+
+-- a call that gives something does not refuse
+never-refused : {A : Type 0} (a : A) (t t′ : Tables) (r : ℕ) → leaves (given a) t′ .reply ≡ refused r → leaves (given a) t′ .tables ≡ t
+never-refused a t t′ r e = absurd (given-not-refused a r e)
+
+module _ (n m : ℕ) (t : Tables) where
+  pub refused-open : (r : ℕ) → calls.openBook n m t .reply ≡ refused r → calls.openBook n m t .tables ≡ t
+  unfolding calls.openBook
+  refused-open = check-refused 1 t _ (shaped n m t) (never-refused tt t _)
+
+  refused-accepted : (links rules : List ℕ) (r : ℕ) → calls.accepted n m t links rules .reply ≡ refused r → calls.accepted n m t links rules .tables ≡ t
+  unfolding calls.accepted
+  refused-accepted links rules r e = absurd (given-not-refused _ r e)
+
+  pub refused-addRule : (k j h r : ℕ) → calls.addRule n m t k j h .reply ≡ refused r → calls.addRule n m t k j h .tables ≡ t
+  unfolding calls.addRule
+  refused-addRule k j h =
+      check-refused 1 t _ _ (check-refused 2 t _ _ (check-refused 3 t _ _ (check-refused 4 t _ _ (check-refused 5 t _ _ (refused-accepted _ _)))))
+
+  pub refused-takeRule : (k j r : ℕ) → calls.takeRule n m t k j .reply ≡ refused r → calls.takeRule n m t k j .tables ≡ t
+  unfolding calls.takeRule
+  refused-takeRule k j =
+      check-refused 1 t _ _ (check-refused 2 t _ _ (check-refused 3 t _ _ (check-refused 5 t _ _ (check-refused 6 t _ _ (refused-accepted _ _)))))
+
+  pub refused-addLink : (c p r : ℕ) → calls.addLink n m t c p .reply ≡ refused r → calls.addLink n m t c p .tables ≡ t
+  unfolding calls.addLink
+  refused-addLink c p =
+      check-refused 1 t _ _ (check-refused 2 t _ _ (check-refused 5 t _ _ (check-refused 7 t _ _ (check-refused 9 t _ _ (refused-accepted _ _)))))
+
+  pub refused-takeLink : (c p r : ℕ) → calls.takeLink n m t c p .reply ≡ refused r → calls.takeLink n m t c p .tables ≡ t
+  unfolding calls.takeLink
+  refused-takeLink c p =
+      check-refused 1 t _ _ (check-refused 2 t _ _ (check-refused 5 t _ _ (check-refused 8 t _ _ (refused-accepted _ _))))
+
+  pub refused-refresh : (r : ℕ) → calls.refresh n m t .reply ≡ refused r → calls.refresh n m t .tables ≡ t
+  unfolding calls.refresh
+  refused-refresh = check-refused 1 t _ _ (check-refused 5 t _ _ (never-refused _ t _))
+
+  abbrev Kept : Tables → Type 0
+  Kept t′ = t′ ≡ t
+
+  -- find and inspect write to no table, whatever they answer
+  pub find-keeps : (k j : ℕ) → calls.find n m t k j .tables ≡ t
+  unfolding calls.find
+  find-keeps k j = check-holds 1 t _ Kept _ refl λ _. check-holds 2 t _ Kept _ refl λ _. check-holds 3 t _ Kept _ refl λ _. refl
+
+  pub inspect-keeps : calls.inspect n m t .tables ≡ t
+  unfolding calls.inspect
+  inspect-keeps = check-holds 1 t _ Kept _ refl λ _. refl
+
+-- ---- find on sound tables
+
+-- what find gives for a lookup, where `rule o` is the handling number of kind o
+abbrev pub findingFor : (rule : ℕ → ℕ) → Lookup → Finding
+findingFor rule None = Finding.none
+findingFor rule (Rule o) = Finding.rule (o .0) (rule (o .0))
+findingFor rule (Dispute x) = Finding.dispute (x .0)
+
+module _ (n : ℕ) (kinds : n ≤ 128) (rule : ℕ → ℕ) where
+  finding-rule : (o : ℕ) → o < n → rule o ≢ 0 → findingOf n rule (o + 1) ≡ given (Finding.rule o (rule o))
+  unfolding findingOf
+  finding-rule o h some =
+      let same : o + 1 - 1 ≡ o = omega arith in
+      rw (ne-eqb (o + 1) 0 (omega arith), findingOf) (rw (le-leb (o + 1) n (omega arith))
+      (ap (λ (x : ℕ). handled x (rule x)) same ∙ rw (ne-eqb (rule o) 0 some, handled) refl))
+
+  finding-dispute : (x : ℕ) → x < n → findingOf n rule (257 + x) ≡ given (Finding.dispute x)
+  unfolding findingOf
+  finding-dispute x h =
+      let same : 257 + x - 257 ≡ x = omega arith in
+      rw (ne-eqb (257 + x) 0 (omega arith), findingOf) (rw (lt-leb (257 + x) n (omega arith))
+      (rw (le-leb 257 (257 + x) (omega arith), le-leb (257 + x) (256 + n) (omega arith), same) refl))
+
+  finding-entry : (v : Lookup) → InRange n (λ c. not (eqb (rule c) 0)) v → findingOf n rule (entryOf v) ≡ given (findingFor rule v)
+  unfolding findingOf
+  finding-entry None r = refl
+  finding-entry (Rule o) r = finding-rule (o .0) (r .0) (eqb-false _ _ (not-true _ (r .1)))
+  finding-entry (Dispute x) r = finding-dispute (x .0) (r .0)
+
+module _ (n m : ℕ) (t : Tables) (k j : ℕ) (fits : shaped n m t ≡ true) (k<n : k < n) (j<m : j < m) (is-sound : sound n m t ≡ true) where
+  pub find-sound : calls.find n m t k j .reply
+      ≡ given (findingFor (λ o. getD (t .rules) (o * m + j) 0) (lookup n (upOf n (t .links)) (ownOf m (t .rules) j) k))
+  unfolding calls.find check entryAt
+  find-sound =
+      let shape = shape-true 1 1 n m _ _ _ _ fits in
+      let s = sound-means n m t (omega (arith, shape .entries-length)) is-sound in
+      let looked = entries-looked n m (t .links) (t .rules) (t .entries) (s .entries) k j k<n j<m in
+      rw (fits, lt-ltb k n k<n, lt-ltb j m j<m)
+      (ap (findingOf n (λ o. getD (t .rules) (o * m + j) 0)) looked
+      ∙ finding-entry n (shape .kinds .1) (λ o. getD (t .rules) (o * m + j) 0) (lookup n (upOf n (t .links)) (ownOf m (t .rules) j) k)
+      (lookup-range n (upOf n (t .links)) (ownOf m (t .rules) j) k k<n))
+
+  pub find-never-10 : calls.find n m t k j .reply ≢ refused 10
+  find-never-10 e = given-not-refused _ 10 (sym find-sound ∙ e)
+
+-- ---- inspect
+
+-- i is the lowest number below k that fails the test
+pub record Lowest (f : ℕ → Bool) (k i : ℕ) : Type 0 where
+  pub within : i < k
+  pub fails : f i ≡ false
+  pub first : (j : ℕ) → j < i → f j ≡ true
+
+pub lowest-fails : (f : ℕ → Bool) (k : ℕ) → all-below f k ≡ false → Lowest f k (lowest f k)
+unfolding all-below lowest
+lowest-fails f zero e = absurd (true≢false e)
+lowest-fails f (suc k) e = go (all-below f k) (f k) refl refl e (lowest-fails f k)
+  where
+    go : (a b : Bool) → all-below f k ≡ a → f k ≡ b → (a && b) ≡ false → (all-below f k ≡ false → Lowest f k (lowest f k))
+        → Lowest f (suc k) (elim a [ true ↦ elim b [ true ↦ suc k | false ↦ k ] | false ↦ lowest f k ])
+    go true true ea eb e rest = absurd (true≢false e)
+    go true false ea eb e rest = record { within = omega arith; fails = eb; first = below-true f k ea }
+    go false b ea eb e rest = let r = rest ea in record { within = omega (arith, r .within); fails = r .fails; first = r .first }
+
+module _ (n m : ℕ) (t : Tables) where
+  pub inspect-sound : shaped n m t ≡ true → (calls.inspect n m t .reply ≡ given Fault.sound) ↔ (sound n m t ≡ true)
+  unfolding calls.inspect check faultOf sound well-linked
+  inspect-sound fits =
+      rw fits (go (all-below (byte-right (t .links)) (n * n)) (all-below (kind-free n (t .links)) n) (all-below (entry-right n m t) (n * m)) _ _ _)
+    where
+      go : (a b c : Bool) (byte kind entry : ℕ) → (given (firstFault a b c byte kind entry) ≡ given Fault.sound) ↔ ((a && b && c) ≡ true)
+      go true true true byte kind entry = (λ _. refl, λ _. refl)
+      go true true false byte kind entry = (λ e. let never : _≡_ {A = ℕ} 0 1 = cc in absurd (omega arith), λ e. absurd (false≢true e))
+      go true false c byte kind entry = (λ e. let never : _≡_ {A = ℕ} 0 1 = cc in absurd (omega arith), λ e. absurd (false≢true e))
+      go false b c byte kind entry = (λ e. let never : _≡_ {A = ℕ} 0 1 = cc in absurd (omega arith), λ e. absurd (false≢true e))

@@ -1,0 +1,378 @@
+-- What holds of every accepted edit, whatever tables it was lent: document 01's part on one edit.
+--     addRule-edits, takeRule-edits     the one rule changes, and `RuleEdited` holds
+--     addLink-edits, takeLink-edits     the one link changes, and `LinkEdited` holds
+--     replaced-none                     a replaced handling returns 0
+-- Each says: only the stated place of rules or links changes; the tables are sound again; entries differ only where the edit can touch, which comes
+-- out the same before and after; the count is the number of places whose entry differs; the tally counts one more.
+-- Assumes nothing.
+use mathlib.Core.Path.{_≡_, refl, sym, _∙_, ap, subst, fun-ext}
+use mathlib.Core.Logic.{_≢_, _↔_, _⊎_, inl, inr, ⊎-elim, by-cases}
+use mathlib.Core.Bool.{Bool, true, false, _&&_, _||_, not, true≢false, and-eq-true-iff}
+use mathlib.Core.List.{List}
+use Prim.Native.Nat.{ℕ, _+_, _*_, _<_, _≤_}
+use native.Mathlib.Decide.{ℕ-discrete}
+use native.Mathlib.Omega.{arith}
+use borrow.Author.Tests.{eqb-true, eq-eqb, ne-eqb, eqb-false, ltb-true, not-true}
+use lib.Arith.{digits-lt}
+use lib.Dec.{eqb, ltb}
+use lib.ListN.{length, getD, set, length-set}
+use lib.Seq.{getD-set-same, getD-set-other}
+use Rattle.inheritance.specs.declared.Lookup.{Lookup}
+use Rattle.inheritance.specs.declared.Lookup.the-variants.{None, Rule, Dispute}
+use Rattle.inheritance.specs.Above.{Chain, link, step, Acyclic, above, count}
+use Rattle.inheritance.specs.Lookup.{lookup, Below}
+use Rattle.inheritance.proofs.AboveLaws.{SameBut, no-chain, fewer-chain, link-acyclic, unlink-fewer, unlink-acyclic}
+use Rattle.inheritance.proofs.TouchLaws.{below-chain, below-carries, touched-below, link-keeps-parent, link-unseen}
+use Rattle.tables.specs.Entry.{entryOf}
+use Rattle.tables.specs.Reply.{given}
+use Rattle.tables.specs.Tables.{Tables, shaped, upOf, ownOf, entryAt, grid, entriesOf, sound, differing, tallied}
+use Rattle.tables.specs.Touch.{RuleTouches, LinkTouches}
+use Rattle.tables.specs.Edit.{OnePlace, apart, Edited, RuleEdited, LinkEdited}
+use Rattle.tables.specs.Calls.{Outcome, accepted, addRule, takeRule, addLink, takeLink}
+use Rattle.tables.proofs.CallLaws.{check-given}
+use Rattle.tables.proofs.ShapeLaws.{Shaped, shape-true}
+use Rattle.tables.proofs.SoundLaws.{Sound, sound-means, means-sound, length-entriesOf, entriesOf-at, entries-looked}
+use Rattle.tables.proofs.TableLaws.{place-split, differing-self, differing-count}
+
+-- ---- one place set
+
+pub set-one : (old : List ℕ) (i v : ℕ) → i < length old → OnePlace old (set old i v) i v
+set-one old i v h = record {
+  size = length-set old i v;
+  there = getD-set-same old i v 0 h;
+  elsewhere = λ j apart. getD-set-other old i j v 0 apart;
+}
+
+-- an entry of 0 is that of none
+none-of-0 : (v : Lookup) → entryOf v ≡ 0 → v ≡ None
+none-of-0 None e = refl
+none-of-0 (Rule k) e = absurd (omega arith)
+none-of-0 (Dispute k) e = absurd (omega arith)
+
+accepted-count : (n m : ℕ) (t : Tables) (links rules : List ℕ) (returned : ℕ) → accepted n m t links rules .reply ≡ given returned
+    → returned ≡ differing (t .entries) (entriesOf n m links rules)
+unfolding accepted
+accepted-count n m t links rules returned is = cc
+
+-- handling numbers play no part in the entries
+entriesOf-own : (n m : ℕ) (links rules rules′ : List ℕ) → ((j c : ℕ) → ownOf m rules j c ≡ ownOf m rules′ j c)
+    → entriesOf n m links rules ≡ entriesOf n m links rules′
+unfolding entriesOf entryAt
+entriesOf-own n m links rules rules′ same =
+    ap (λ (own : ℕ → ℕ → Bool). grid (λ c j. entryOf (lookup n (upOf n links) (own j) c)) m n) (fun-ext (λ j. fun-ext (same j)))
+
+module _ (n m : ℕ) (t : Tables) (size : length (t .entries) ≡ n * m) (before : Sound n m t) where
+  -- ---- an accepted edit with these links and rules
+
+  module _ (links rules : List ℕ) (returned : ℕ) (is : accepted n m t links rules .reply ≡ given returned) where
+    abbrev after : Tables
+    after = accepted n m t links rules .tables
+
+    entry-before : (k j : ℕ) → k < n → j < m → getD (t .entries) (k * m + j) 0 ≡ entryAt n m (upOf n (t .links)) (t .rules) k j
+    entry-before = entries-looked n m (t .links) (t .rules) (t .entries) (before .entries)
+
+    entry-after : (k j : ℕ) → k < n → j < m → getD (after .entries) (k * m + j) 0 ≡ entryAt n m (upOf n links) rules k j
+    unfolding accepted
+    entry-after = entriesOf-at n m links rules
+
+    -- entries that differ are of lookups that differ
+    lookups-differ : (k j : ℕ) → k < n → j < m → getD (t .entries) (k * m + j) 0 ≢ getD (after .entries) (k * m + j) 0
+        → lookup n (upOf n (t .links)) (ownOf m (t .rules) j) k ≢ lookup n (upOf n links) (ownOf m rules j) k
+    unfolding entryAt
+    lookups-differ k j hk hj differ same = differ (entry-before k j hk hj ∙ ap entryOf same ∙ sym (entry-after k j hk hj))
+
+    accepted-edits : (Touches : Tables → ℕ → ℕ → Type 0)
+        → ((i : ℕ) → i < n * n → getD links i 0 ≤ 1) → Acyclic n (upOf n links)
+        → ((k j : ℕ) → k < n → j < m → getD (t .entries) (k * m + j) 0 ≢ getD (after .entries) (k * m + j) 0 → Touches t k j)
+        → ((k j : ℕ) → k < n → j < m → Touches t k j ↔ Touches after k j)
+        → Edited n m Touches t after returned
+    unfolding accepted
+    accepted-edits Touches bytes acyclic touched same-reading = record {
+      sound-after = means-sound n m after (length-entriesOf n m links rules) (record { bytes = bytes; acyclic = acyclic; entries = refl });
+      tally-after = refl;
+      touched = touched;
+      same-reading = same-reading;
+      counted =
+          accepted-count n m t links rules returned is
+          ∙ differing-count (t .entries) (entriesOf n m links rules) (size ∙ sym (length-entriesOf n m links rules))
+          ∙ ap (λ (x : ℕ). count (apart (t .entries) (entriesOf n m links rules)) x) size;
+    }
+
+  -- ---- an edit of a rule
+
+  module _ (kind mark handling : ℕ) (kind-in : kind < n) (mark-in : mark < m) (rules-size : length (t .rules) ≡ n * m) where
+    abbrev ruled : List ℕ
+    ruled = set (t .rules) (kind * m + mark) handling
+
+    own-kept : (j c : ℕ) → j < m → (c ≢ kind) ⊎ (j ≢ mark) → ownOf m (t .rules) j c ≡ ownOf m ruled j c
+    own-kept j c hj elsewhere =
+        ap (λ (x : ℕ). not (eqb x 0)) (sym (getD-set-other (t .rules) (kind * m + mark) (c * m + j) handling 0
+        (λ same. let (same-kind, same-mark) = place-split {k = c} {k′ = kind} hj mark-in same in
+        ⊎-elim (λ ne. ne same-kind) (λ ne. ne same-mark) elsewhere)))
+
+    pub rule-edits : (returned : ℕ) → accepted n m t (t .links) ruled .reply ≡ given returned
+        → RuleEdited n m kind mark handling t (accepted n m t (t .links) ruled .tables) returned
+    unfolding accepted
+    rule-edits returned is = record {
+      links-kept = refl;
+      rule-changed = set-one (t .rules) (kind * m + mark) handling (rw rules-size (digits-lt kind-in mark-in));
+      edited = accepted-edits (t .links) ruled returned is (RuleTouches n m kind mark) (before .bytes) (before .acyclic) touched same-reading;
+    }
+      where
+        up : ℕ → ℕ → Bool
+        up = upOf n (t .links)
+
+        touched : (k j : ℕ) → k < n → j < m → getD (t .entries) (k * m + j) 0 ≢ getD (accepted n m t (t .links) ruled .tables .entries) (k * m + j) 0
+            → RuleTouches n m kind mark t k j
+        touched k j hk hj differ =
+            let apart = lookups-differ (t .links) ruled returned is k j hk hj differ in
+            record {
+              below = touched-below n up up (ownOf m (t .rules) j) (ownOf m ruled j) (before .acyclic) (before .acyclic) kind (λ c p hc hp ne. refl)
+                  (λ c hc ne. own-kept j c hj (inl ne)) k hk apart .0;
+              the-mark = by-cases (ℕ-discrete j mark) (λ same. same)
+                  (λ ne. absurd (apart (ap (λ (own : ℕ → Bool). lookup n up own k) (fun-ext (λ c. own-kept j c hj (inr ne))))));
+            }
+
+        same-reading : (k j : ℕ) → k < n → j < m → RuleTouches n m kind mark t k j ↔ RuleTouches n m kind mark (accepted n m t (t .links) ruled .tables) k j
+        same-reading k j hk hj = (
+          λ r. record {
+            below = below-carries n up up (ownOf m (t .rules) j) (ownOf m ruled j) kind (λ c p hc hp ne. refl) (λ c hc ne. own-kept j c hj (inl ne)) hk (r .below);
+            the-mark = r .the-mark;
+          },
+          λ r. record {
+            below = below-carries n up up (ownOf m ruled j) (ownOf m (t .rules) j) kind (λ c p hc hp ne. refl) (λ c hc ne. sym (own-kept j c hj (inl ne))) hk (r .below);
+            the-mark = r .the-mark;
+          },
+        )
+
+  -- ---- an edit of a link
+
+  module _ (child parent byte : ℕ) (child-in : child < n) (parent-in : parent < n) (links-size : length (t .links) ≡ n * n) (small : byte ≤ 1) where
+    abbrev linked : List ℕ
+    linked = set (t .links) (child * n + parent) byte
+
+    up-set : upOf n linked child parent ≡ eqb byte 1
+    up-set = ap (λ (x : ℕ). eqb x 1) (getD-set-same (t .links) (child * n + parent) byte 0 (rw links-size (digits-lt child-in parent-in)))
+
+    up-kept : (c p : ℕ) → p < n → (c ≢ child) ⊎ (p ≢ parent) → upOf n (t .links) c p ≡ upOf n linked c p
+    up-kept c p hp elsewhere =
+        ap (λ (x : ℕ). eqb x 1) (sym (getD-set-other (t .links) (child * n + parent) (c * n + p) byte 0
+        (λ same. let (same-child, same-parent) = place-split {k = c} {k′ = child} hp parent-in same in
+        ⊎-elim (λ ne. ne same-child) (λ ne. ne same-parent) elsewhere)))
+
+    same-but : SameBut n (upOf n (t .links)) (upOf n linked) child parent
+    same-but c p hc hp other = sym (by-cases (ℕ-discrete c child)
+        (λ same. up-kept c p hp (inr (λ same-parent. other (same, same-parent)))) (λ ne. up-kept c p hp (inl ne)))
+
+    bytes-after : (i : ℕ) → i < n * n → getD linked i 0 ≤ 1
+    bytes-after i h = by-cases (ℕ-discrete i (child * n + parent))
+        (λ same. subst (λ (x : ℕ). getD linked x 0 ≤ 1) (sym same)
+        (rw (getD-set-same (t .links) (child * n + parent) byte 0 (rw links-size (digits-lt child-in parent-in))) small))
+        (λ ne. rw (getD-set-other (t .links) (child * n + parent) i byte 0 ne) (before .bytes i h))
+
+    -- `apart`: the parent is not below the child
+    module _ (acyclic : Acyclic n (upOf n linked)) (apart : (own : ℕ → Bool) → ¬ Below n (upOf n linked) own child parent) where
+      pub link-edits : (returned : ℕ) → accepted n m t linked (t .rules) .reply ≡ given returned
+          → LinkEdited n m child parent byte t (accepted n m t linked (t .rules) .tables) returned
+      unfolding accepted entryAt
+      link-edits returned is = record {
+        rules-kept = refl;
+        link-changed = set-one (t .links) (child * n + parent) byte (rw links-size (digits-lt child-in parent-in));
+        edited = accepted-edits linked (t .rules) returned is (LinkTouches n m child parent) bytes-after acyclic touched same-reading;
+      }
+        where
+          up : ℕ → ℕ → Bool
+          up = upOf n (t .links)
+
+          up′ : ℕ → ℕ → Bool
+          up′ = upOf n linked
+
+          own : ℕ → ℕ → Bool
+          own = ownOf m (t .rules)
+
+          same-up : (c p : ℕ) → c < n → p < n → c ≢ child → up c p ≡ up′ c p
+          same-up c p hc hp ne = up-kept c p hp (inl ne)
+
+          -- an entry of the parent that is 0, or an own rule of the child, keeps every lookup
+          unseen : (j k : ℕ) → k < n → (own j child ≡ true) ⊎ (lookup n up (own j) parent ≡ None) → lookup n up (own j) k ≡ lookup n up′ (own j) k
+          unseen j k hk why =
+              link-unseen n up up′ (own j) (own j) (before .acyclic) acyclic child parent child-in parent-in same-up
+              (λ p hp ne. up-kept child p hp (inr ne)) (λ c hc. refl) (apart (own j)) why k hk
+
+          parent-kept : (j : ℕ) → j < m → getD (t .entries) (parent * m + j) 0 ≡ getD (accepted n m t linked (t .rules) .tables .entries) (parent * m + j) 0
+          parent-kept j hj =
+              entry-before linked (t .rules) returned is parent j parent-in hj
+              ∙ ap entryOf (link-keeps-parent n up up′ (own j) (own j) (before .acyclic) acyclic child parent child-in parent-in same-up
+              (λ p hp ne. up-kept child p hp (inr ne)) (λ c hc. refl) (apart (own j)))
+              ∙ sym (entry-after linked (t .rules) returned is parent j parent-in hj)
+
+          no-own : (b : Bool) {x : Bool} → x ≡ b → (x ≡ true → ⊥) → x ≡ false
+          no-own true e h = absurd (h e)
+          no-own false e h = e
+
+          touched : (k j : ℕ) → k < n → j < m → getD (t .entries) (k * m + j) 0 ≢ getD (accepted n m t linked (t .rules) .tables .entries) (k * m + j) 0
+              → LinkTouches n m child parent t k j
+          touched k j hk hj differ =
+              let differs = lookups-differ linked (t .rules) returned is k j hk hj differ in
+              record {
+                below = touched-below n up up′ (own j) (own j) (before .acyclic) acyclic child same-up (λ c hc ne. refl) k hk differs .0;
+                no-own-rule = no-own (own j child) refl (λ o. differs (unseen j k hk (inl o)));
+                parent-entry = λ zero. differs (unseen j k hk (inr (none-of-0 _ (sym (entry-before linked (t .rules) returned is parent j parent-in hj) ∙ zero))));
+              }
+
+          same-reading : (k j : ℕ) → k < n → j < m → LinkTouches n m child parent t k j ↔ LinkTouches n m child parent (accepted n m t linked (t .rules) .tables) k j
+          same-reading k j hk hj = (
+            λ r. record {
+              below = below-carries n up up′ (own j) (own j) child same-up (λ c hc ne. refl) hk (r .below);
+              no-own-rule = r .no-own-rule;
+              parent-entry = λ zero. r .parent-entry (parent-kept j hj ∙ zero);
+            },
+            λ r. record {
+              below = below-carries n up′ up (own j) (own j) child (λ c p hc hp ne. sym (same-up c p hc hp ne)) (λ c hc ne. refl) hk (r .below);
+              no-own-rule = r .no-own-rule;
+              parent-entry = λ zero. r .parent-entry (sym (parent-kept j hj) ∙ zero);
+            },
+          )
+
+-- ---- the four edits
+
+-- what a call knows whose checks of shape and soundness were passed
+record Passed (n m : ℕ) (t : Tables) : Type 0 where
+  kinds : (1 ≤ n) × (n ≤ 128)
+  links-size : length (t .links) ≡ n * n
+  rules-size : length (t .rules) ≡ n * m
+  entries-size : length (t .entries) ≡ n * m
+  before : Sound n m t
+
+passed : (n m : ℕ) (t : Tables) → shaped n m t ≡ true → sound n m t ≡ true → Passed n m t
+passed n m t fits is-sound =
+    let s = shape-true 1 1 n m _ _ _ _ fits in
+    let size : length (t .entries) ≡ n * m = omega (arith, s .entries-length) in
+    record {
+      kinds = s .kinds;
+      links-size = s .links-length;
+      rules-size = omega (arith, s .rules-length);
+      entries-size = size;
+      before = sound-means n m t size is-sound;
+    }
+
+module _ (n m : ℕ) (t : Tables) where
+  pub addRule-edits : (kind mark handling returned : ℕ) → addRule n m t kind mark handling .reply ≡ given returned
+      → RuleEdited n m kind mark handling t (addRule n m t kind mark handling .tables) returned
+  unfolding addRule
+  addRule-edits kind mark handling returned =
+      let P : Tables → Type 0 = λ t′. RuleEdited n m kind mark handling t t′ returned in
+      check-given 1 t _ P _ λ fits. check-given 2 t _ P _ λ kind-in. check-given 3 t _ P _ λ mark-in. check-given 4 t _ P _ λ _.
+      check-given 5 t _ P _ λ is-sound is.
+      let s = passed n m t fits is-sound in
+      rule-edits n m t (s .entries-size) (s .before) kind mark handling (ltb-true _ _ kind-in) (ltb-true _ _ mark-in) (s .rules-size) returned is
+
+  pub takeRule-edits : (kind mark returned : ℕ) → takeRule n m t kind mark .reply ≡ given returned
+      → RuleEdited n m kind mark 0 t (takeRule n m t kind mark .tables) returned
+  unfolding takeRule
+  takeRule-edits kind mark returned =
+      let P : Tables → Type 0 = λ t′. RuleEdited n m kind mark 0 t t′ returned in
+      check-given 1 t _ P _ λ fits. check-given 2 t _ P _ λ kind-in. check-given 3 t _ P _ λ mark-in. check-given 5 t _ P _ λ is-sound.
+      check-given 6 t _ P _ λ _ is.
+      let s = passed n m t fits is-sound in
+      rule-edits n m t (s .entries-size) (s .before) kind mark 0 (ltb-true _ _ kind-in) (ltb-true _ _ mark-in) (s .rules-size) returned is
+
+  pub addLink-edits : (child parent returned : ℕ) → addLink n m t child parent .reply ≡ given returned
+      → LinkEdited n m child parent 1 t (addLink n m t child parent .tables) returned
+  unfolding addLink
+  addLink-edits child parent returned =
+      let P : Tables → Type 0 = λ t′. LinkEdited n m child parent 1 t t′ returned in
+      check-given 1 t _ P _ λ fits. check-given 2 t _ P _ λ kinds-in. check-given 5 t _ P _ λ is-sound. check-given 7 t _ P _ λ _.
+      check-given 9 t _ P _ λ no-cycle is.
+      let s = passed n m t fits is-sound in
+      let (child-in, parent-in) = and-eq-true-iff (ltb child n) _ .0 kinds-in in
+      go (ltb-true _ _ child-in) (ltb-true _ _ parent-in) s (or-false (eqb parent child) (not-true _ no-cycle)) is
+    where
+      or-false : (a : Bool) {b : Bool} → (a || b) ≡ false → (a ≡ false) × (b ≡ false)
+      or-false true e = absurd (true≢false e)
+      or-false false e = (refl, e)
+
+      go : child < n → parent < n → Passed n m t → (eqb parent child ≡ false) × (above n (upOf n (t .links)) parent child ≡ false)
+          → accepted n m t (set (t .links) (child * n + parent) 1) (t .rules) .reply ≡ given returned
+          → LinkEdited n m child parent 1 t (accepted n m t (set (t .links) (child * n + parent) 1) (t .rules) .tables) returned
+      go child-in parent-in s (ne, free) is =
+          link-edits n m t (s .entries-size) (s .before) child parent 1 child-in parent-in (s .links-size) (omega arith) acyclic apart returned is
+        where
+          up′ : ℕ → ℕ → Bool
+          up′ = upOf n (set (t .links) (child * n + parent) 1)
+
+          acyclic : Acyclic n up′
+          acyclic =
+              link-acyclic n (upOf n (t .links)) up′ child parent
+              (same-but n m t (s .entries-size) (s .before) child parent 1 child-in parent-in (s .links-size) (omega arith))
+              (λ same. eqb-false _ _ ne (sym same)) free (s .before .acyclic)
+
+          -- a chain from the parent up to the child and the new link would close a cycle
+          apart : (own : ℕ → Bool) → ¬ Below n up′ own child parent
+          apart own b = ⊎-elim (λ same. eqb-false _ _ ne same)
+              (λ chain. no-chain n up′ acyclic child-in (step parent-in (up-set n m t (s .entries-size) (s .before) child parent 1 child-in parent-in (s .links-size) (omega arith)) chain))
+              (below-chain n up′ own b)
+
+  pub takeLink-edits : (child parent returned : ℕ) → takeLink n m t child parent .reply ≡ given returned
+      → LinkEdited n m child parent 0 t (takeLink n m t child parent .tables) returned
+  unfolding takeLink
+  takeLink-edits child parent returned =
+      let P : Tables → Type 0 = λ t′. LinkEdited n m child parent 0 t t′ returned in
+      check-given 1 t _ P _ λ fits. check-given 2 t _ P _ λ kinds-in. check-given 5 t _ P _ λ is-sound. check-given 8 t _ P _ λ there is.
+      let s = passed n m t fits is-sound in
+      let (child-in, parent-in) = and-eq-true-iff (ltb child n) _ .0 kinds-in in
+      go (ltb-true _ _ child-in) (ltb-true _ _ parent-in) s there is
+    where
+      go : child < n → parent < n → Passed n m t → upOf n (t .links) child parent ≡ true
+          → accepted n m t (set (t .links) (child * n + parent) 0) (t .rules) .reply ≡ given returned
+          → LinkEdited n m child parent 0 t (accepted n m t (set (t .links) (child * n + parent) 0) (t .rules) .tables) returned
+      go child-in parent-in s there is =
+          link-edits n m t (s .entries-size) (s .before) child parent 0 child-in parent-in (s .links-size) (omega arith) acyclic apart returned is
+        where
+          up : ℕ → ℕ → Bool
+          up = upOf n (t .links)
+
+          up′ : ℕ → ℕ → Bool
+          up′ = upOf n (set (t .links) (child * n + parent) 0)
+
+          gone : up′ child parent ≡ false
+          gone = up-set n m t (s .entries-size) (s .before) child parent 0 child-in parent-in (s .links-size) (omega arith)
+
+          same : SameBut n up up′ child parent
+          same = same-but n m t (s .entries-size) (s .before) child parent 0 child-in parent-in (s .links-size) (omega arith)
+
+          acyclic : Acyclic n up′
+          acyclic = unlink-acyclic n up up′ child parent same gone (s .before .acyclic)
+
+          -- a chain from the parent up to the child was there before, and closed a cycle with the link
+          round : Chain n up′ parent child → ⊥
+          round chain = no-chain n up (s .before .acyclic) child-in (step parent-in there (fewer-chain n up up′ (unlink-fewer n up up′ child parent same gone) parent-in chain))
+
+          apart : (own : ℕ → Bool) → ¬ Below n up′ own child parent
+          apart own b =
+              let above : Chain n up child parent = link parent-in there in
+              ⊎-elim (λ is-child. no-chain n up (s .before .acyclic) child-in (rw is-child at above)) round (below-chain n up′ own b)
+
+  -- with another handling number every kind has the own rules it had, and so every lookup is the same
+  pub replaced-none : (kind mark handling returned : ℕ) → ownOf m (t .rules) mark kind ≡ true
+      → addRule n m t kind mark handling .reply ≡ given returned → returned ≡ 0
+  unfolding addRule
+  replaced-none kind mark handling returned has =
+      let P : Tables → Type 0 = λ _. returned ≡ 0 in
+      check-given 1 t _ P _ λ fits. check-given 2 t _ P _ λ kind-in. check-given 3 t _ P _ λ mark-in. check-given 4 t _ P _ λ some.
+      check-given 5 t _ P _ λ is-sound. go (passed n m t fits is-sound) (ltb-true _ _ kind-in) (ltb-true _ _ mark-in) (eqb-false _ _ (not-true _ some))
+    where
+      place : ℕ
+      place = kind * m + mark
+
+      own-same : Passed n m t → kind < n → mark < m → handling ≢ 0 → (j c : ℕ) → ownOf m (set (t .rules) place handling) j c ≡ ownOf m (t .rules) j c
+      own-same s kind-in mark-in some j c = by-cases (ℕ-discrete (c * m + j) place)
+          (λ here. subst (λ (x : ℕ). not (eqb (getD (set (t .rules) place handling) x 0) 0) ≡ not (eqb (getD (t .rules) x 0) 0)) (sym here)
+          (rw (getD-set-same (t .rules) place handling 0 (rw (s .rules-size) (digits-lt kind-in mark-in)), ne-eqb handling 0 some) (sym has)))
+          (λ ne. ap (λ (x : ℕ). not (eqb x 0)) (getD-set-other (t .rules) place (c * m + j) handling 0 ne))
+
+      go : Passed n m t → kind < n → mark < m → handling ≢ 0 → accepted n m t (t .links) (set (t .rules) place handling) .reply ≡ given returned → returned ≡ 0
+      go s kind-in mark-in some is =
+          accepted-count n m t (t .links) (set (t .rules) place handling) returned is
+          ∙ ap (differing (t .entries)) (entriesOf-own n m (t .links) _ _ (own-same s kind-in mark-in some) ∙ sym (s .before .entries))
+          ∙ differing-self (t .entries)

@@ -1,0 +1,176 @@
+-- Entries that each follow by one step from those of the parents are the lookups, and what code can test is soundness.
+--     Stepped                            each entry is what its kind's own rule and its parents' entries give
+--     Looked                             each entry is its lookup
+--     right-stepped, stepped-right       `Stepped` is the test `right`
+--     step-looked                        where no kind is above itself: a kind whose parents have their lookups has its own by one step
+--     stepped-looked, looked-stepped     there `Stepped` and `Looked` are the same
+--     entries-looked, looked-entries     `Looked` tables are those of `entriesOf`
+--     Sound, sound-means, means-sound    what `sound` tests, as facts
+--     sound-by-steps                     the tables are sound exactly if they are well linked and every entry follows by one step
+-- Assumes nothing.
+use mathlib.Core.Path.{_≡_, refl, sym, _∙_, ap, subst}
+use mathlib.Core.Bool.{Bool, true, false, _&&_, not, and-eq-true-iff}
+use mathlib.Core.List.{List}
+use Prim.Native.Nat.{ℕ, _+_, _*_, _<_, _≤_}
+use native.Mathlib.Nat.{lt-of-lt-of-le}
+use native.Mathlib.Omega.{arith}
+use borrow.Author.Tests.{eqb-true, eq-eqb, leb-true, le-leb, not-true}
+use lib.Dec.{eqb}
+use lib.ListN.{length, getD}
+use lib.Seq.{ext-getD}
+use Rattle.inheritance.specs.declared.Lookup.{Lookup}
+use Rattle.inheritance.specs.declared.Lookup.the-variants.{None, Rule, Dispute}
+use Rattle.inheritance.specs.Above.{Acyclic}
+use Rattle.inheritance.specs.Lookup.{inherit, lookup}
+use Rattle.inheritance.proofs.LookupLaws.{InRange, inherit-cong, inherit-parents, inherit-keeps, lookup-range, unfold-lookup, unique}
+use Rattle.tables.specs.Entry.{entryOf, lookupOf}
+use Rattle.tables.specs.Tables.{Tables, upOf, ownOf, entryAt, entriesOf, all-below, byte-right, kind-free, entry-right, well-linked, sound}
+use Rattle.tables.specs.Step.{read, stepped, kind-right, right}
+use Rattle.tables.proofs.EntryLaws.{Coded, entry-lookup, coded-none, coded-rule, coded-dispute, coded-read}
+use Rattle.tables.proofs.TableLaws.{below-true, true-below, below-same, length-grid, grid-at, grid-ext}
+
+abbrev pub Stepped : (n m : ℕ) (up : ℕ → ℕ → Bool) (rules entries : List ℕ) → Type 0
+Stepped n m up rules entries = (c j : ℕ) → c < n → j < m → getD entries (c * m + j) 0 ≡ stepped n m up rules entries c j
+
+abbrev pub Looked : (n m : ℕ) (up : ℕ → ℕ → Bool) (rules entries : List ℕ) → Type 0
+Looked n m up rules entries = (c j : ℕ) → c < n → j < m → getD entries (c * m + j) 0 ≡ entryAt n m up rules c j
+
+-- both tests are true under the same conditions
+pub same-bool : (a b : Bool) → (a ≡ true → b ≡ true) → (b ≡ true → a ≡ true) → a ≡ b
+same-bool true b f g = sym (f refl)
+same-bool false true f g = g refl
+same-bool false false f g = refl
+
+-- ---- the test of one step
+
+module _ (n m : ℕ) (up : ℕ → ℕ → Bool) (rules entries : List ℕ) where
+  pub right-stepped : right n m up rules entries ≡ true → Stepped n m up rules entries
+  unfolding right kind-right
+  right-stepped e c j hc hj = eqb-true _ _ (below-true _ m (below-true _ n e c hc) j hj)
+
+  pub stepped-right : Stepped n m up rules entries → right n m up rules entries ≡ true
+  unfolding right kind-right
+  stepped-right w = true-below _ n (λ c hc. true-below _ m (λ j hj. eq-eqb _ _ (w c j hc hj)))
+
+-- only the links below n play a part
+module _ (n m : ℕ) (up up′ : ℕ → ℕ → Bool) (rules entries : List ℕ) (agree : (c p : ℕ) → c < n → p < n → up c p ≡ up′ c p) where
+  pub stepped-up : (c j : ℕ) → c < n → stepped n m up rules entries c j ≡ stepped n m up′ rules entries c j
+  unfolding stepped
+  stepped-up c j hc = ap entryOf (inherit-parents n up up′ (ownOf m rules j) (read m entries j) c (λ p hp. agree c p hc hp))
+
+  pub right-up : right n m up rules entries ≡ right n m up′ rules entries
+  unfolding right kind-right
+  right-up = below-same _ _ n (λ c hc. below-same _ _ m (λ j hj. ap (eqb (getD entries (c * m + j) 0)) (stepped-up c j hc)))
+
+-- ---- one step and the lookups
+
+in-range-coded : (n : ℕ) (own : ℕ → Bool) (v : Lookup) → n ≤ 256 → InRange n own v → Coded v
+in-range-coded n own None h r = coded-none
+in-range-coded n own (Rule k) h r = coded-rule (k .0) (lt-of-lt-of-le (r .0) h)
+in-range-coded n own (Dispute k) h r = coded-dispute (k .0)
+
+module _ (n m : ℕ) (up : ℕ → ℕ → Bool) (rules entries : List ℕ) (kinds : n ≤ 256) where
+  -- an entry that is the lookup's stands for it
+  pub lookup-read : (p j : ℕ) → p < n → lookupOf (entryAt n m up rules p j) ≡ lookup n up (ownOf m rules j) p
+  unfolding entryAt
+  lookup-read p j hp = in-range-coded n (ownOf m rules j) (lookup n up (ownOf m rules j) p) kinds (lookup-range n up (ownOf m rules j) p hp)
+
+  inherit-coded : (c j : ℕ) → c < n → Coded (inherit n up (ownOf m rules j) (read m entries j) c)
+  unfolding read
+  inherit-coded c j hc =
+      inherit-keeps n up (ownOf m rules j) Coded (read m entries j) c (λ _. coded-rule c (omega arith))
+      (λ _. (coded-none, coded-dispute c, λ p hp u. coded-read (getD entries (p * m + j) 0)))
+
+  module _ (acyclic : Acyclic n up) where
+    pub step-looked : (c j : ℕ) → c < n → ((p : ℕ) → p < n → up c p ≡ true → getD entries (p * m + j) 0 ≡ entryAt n m up rules p j)
+        → stepped n m up rules entries c j ≡ entryAt n m up rules c j
+    unfolding stepped entryAt read
+    step-looked c j hc parents =
+        ap entryOf
+        (inherit-cong n up (ownOf m rules j) (read m entries j) (lookup n up (ownOf m rules j)) c
+        (λ _ p hp u. ap lookupOf (parents p hp u) ∙ lookup-read p j hp)
+        ∙ sym (unfold-lookup n up (ownOf m rules j) acyclic c hc))
+
+    pub looked-stepped : Looked n m up rules entries → Stepped n m up rules entries
+    looked-stepped r c j hc hj = r c j hc hj ∙ sym (step-looked c j hc (λ p hp _. r p j hp hj))
+
+    pub stepped-looked : Stepped n m up rules entries → Looked n m up rules entries
+    unfolding stepped entryAt read
+    stepped-looked w c j hc hj =
+        sym (entry-lookup (getD entries (c * m + j) 0))
+        ∙ ap entryOf
+        (unique n up (ownOf m rules j) acyclic (read m entries j) (λ d hd. ap lookupOf (w d j hd hj) ∙ inherit-coded d j hd) c hc)
+
+-- ---- as the definitions have it
+
+module _ (n m : ℕ) (links rules : List ℕ) where
+  pub length-entriesOf : length (entriesOf n m links rules) ≡ n * m
+  unfolding entriesOf
+  length-entriesOf = length-grid _ m n
+
+  pub entriesOf-at : (c j : ℕ) → c < n → j < m → getD (entriesOf n m links rules) (c * m + j) 0 ≡ entryAt n m (upOf n links) rules c j
+  unfolding entriesOf
+  entriesOf-at c j hc hj = grid-at _ m n c j hc hj
+
+  module _ (entries : List ℕ) where
+    pub looked-entries : length entries ≡ n * m → Looked n m (upOf n links) rules entries → entries ≡ entriesOf n m links rules
+    unfolding entriesOf
+    looked-entries size r = grid-ext _ m n entries size r
+
+    pub entries-looked : entries ≡ entriesOf n m links rules → Looked n m (upOf n links) rules entries
+    entries-looked e c j hc hj = ap (λ (l : List ℕ). getD l (c * m + j) 0) e ∙ entriesOf-at c j hc hj
+
+module _ (n m : ℕ) (t : Tables) where
+  pub record Sound : Type 0 where
+    pub bytes : (i : ℕ) → i < n * n → getD (t .links) i 0 ≤ 1
+    pub acyclic : Acyclic n (upOf n (t .links))
+    pub entries : t .entries ≡ entriesOf n m (t .links) (t .rules)
+
+  pub links-mean : well-linked n (t .links) ≡ true → ((i : ℕ) → i < n * n → getD (t .links) i 0 ≤ 1) × Acyclic n (upOf n (t .links))
+  unfolding well-linked
+  links-mean e =
+      let (bytes, free) = and-eq-true-iff (all-below (byte-right (t .links)) (n * n)) _ .0 e in
+      (λ i h. leb-true _ _ (below-true _ (n * n) bytes i h), λ c h. not-true _ (below-true _ n free c h))
+
+  pub mean-links : ((i : ℕ) → i < n * n → getD (t .links) i 0 ≤ 1) → Acyclic n (upOf n (t .links)) → well-linked n (t .links) ≡ true
+  unfolding well-linked
+  mean-links bytes acyclic =
+      and-eq-true-iff _ _ .1 (true-below _ (n * n) (λ i h. le-leb _ _ (bytes i h)), true-below _ n (λ c h. ap not (acyclic c h)))
+
+  module _ (size : length (t .entries) ≡ n * m) where
+    entries-true : all-below (entry-right n m t) (n * m) ≡ true → t .entries ≡ entriesOf n m (t .links) (t .rules)
+    entries-true e =
+        ext-getD 0 (t .entries) (entriesOf n m (t .links) (t .rules)) (size ∙ sym (length-entriesOf n m (t .links) (t .rules)))
+        (λ i h. eqb-true _ _ (below-true _ (n * m) e i (rw size at h)))
+
+    true-entries : t .entries ≡ entriesOf n m (t .links) (t .rules) → all-below (entry-right n m t) (n * m) ≡ true
+    true-entries e = true-below _ (n * m) (λ i h. eq-eqb _ _ (ap (λ (l : List ℕ). getD l i 0) e))
+
+    pub sound-means : sound n m t ≡ true → Sound
+    unfolding sound
+    sound-means e =
+        let (linked, right) = and-eq-true-iff (well-linked n (t .links)) _ .0 e in
+        let (bytes, acyclic) = links-mean linked in
+        record { bytes = bytes; acyclic = acyclic; entries = entries-true right }
+
+    pub means-sound : Sound → sound n m t ≡ true
+    unfolding sound
+    means-sound s = and-eq-true-iff _ _ .1 (mean-links (s .bytes) (s .acyclic), true-entries (s .entries))
+
+    pub sound-by-steps : n ≤ 256 → sound n m t ≡ (well-linked n (t .links) && right n m (upOf n (t .links)) (t .rules) (t .entries))
+    unfolding sound
+    sound-by-steps kinds = and-when (well-linked n (t .links)) _ _ (λ e. same-bool _ _ (to (links-mean e .1)) (from (links-mean e .1)))
+      where
+        and-when : (a b c : Bool) → (a ≡ true → b ≡ c) → (a && b) ≡ (a && c)
+        and-when true b c same = same refl
+        and-when false b c same = refl
+
+        to : Acyclic n (upOf n (t .links)) → all-below (entry-right n m t) (n * m) ≡ true → right n m (upOf n (t .links)) (t .rules) (t .entries) ≡ true
+        to acyclic e =
+            stepped-right n m _ _ _
+            (looked-stepped n m _ _ _ kinds acyclic (entries-looked n m (t .links) (t .rules) (t .entries) (entries-true e)))
+
+        from : Acyclic n (upOf n (t .links)) → right n m (upOf n (t .links)) (t .rules) (t .entries) ≡ true → all-below (entry-right n m t) (n * m) ≡ true
+        from acyclic e =
+            true-entries (looked-entries n m (t .links) (t .rules) (t .entries) size
+            (stepped-looked n m _ _ _ kinds acyclic (right-stepped n m _ _ _ e)))

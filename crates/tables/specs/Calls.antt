@@ -1,0 +1,170 @@
+-- What each call answers and what it leaves in the tables, as document 01 has it, paragraph by paragraph. The checks of a call stand in the paper's
+-- order, each with the number of its refusal.
+--     openBook, addRule, takeRule, addLink, takeLink, find, inspect, refresh
+--     PartiesGive    parties alone is stated by a property: its refusals are exact, and what it gives are some two different rule kinds seen
+-- Assumes nothing.
+use mathlib.Core.Path.{_≡_}
+use mathlib.Core.Logic.{_≢_}
+use mathlib.Core.Bool.{Bool, true, false, _&&_, _||_, not}
+use mathlib.Core.List.{List}
+use Prim.Native.Nat.{ℕ, zero, suc, _+_, _*_, _-_}
+use lib.Dec.{eqb, leb, ltb}
+use lib.ListN.{getD, replicate, set}
+use Rattle.inheritance.specs.Above.{above}
+use Rattle.inheritance.specs.Lookup.{Seen}
+use Rattle.tables.specs.Reply.{Reply, refused, given, Finding, Fault, TwoKinds}
+use Rattle.tables.specs.Tables.{Tables, lent, shaped, upOf, ownOf, entriesOf, all-below, byte-right, kind-free, entry-right, well-linked, sound, differing, tallied}
+
+pub record Outcome (A : Type 0) : Type 0 where
+  pub reply : Reply A
+  pub tables : Tables
+
+-- a call that replies so and leaves these tables
+abbrev pub leaves : {A : Type 0} → Reply A → Tables → Outcome A
+leaves reply t = record { reply = reply; tables = t }
+
+-- where the test fails the call is refused by this number and writes to no table
+unfoldable pub check : {A : Type 0} → ℕ → Bool → Tables → Outcome A → Outcome A
+check number true t next = next
+check number false t next = leaves (refused number) t
+
+-- ---- Open
+
+-- all four tables are 0
+abbrev pub zeros : ℕ → ℕ → Tables
+zeros n m = lent (replicate (n * n) 0) (replicate (n * m) 0) (replicate (n * m) 0) (replicate 1 0)
+
+unfoldable pub openBook : (n m : ℕ) → Tables → Outcome (Unit {0})
+openBook n m t =
+    check 1 (shaped n m t) t
+    (leaves (given tt) (zeros n m))
+
+-- ---- The four edits
+
+-- an accepted edit: the links and rules are as given, every entry is its lookup, the tally counts one more; the count is of the places whose
+-- entry differs from before
+unfoldable pub accepted : (n m : ℕ) → Tables → (links rules : List ℕ) → Outcome ℕ
+accepted n m t links rules =
+    leaves (given (differing (t .entries) (entriesOf n m links rules)))
+    (lent links rules (entriesOf n m links rules) (tallied (t .tally)))
+
+unfoldable pub addRule : (n m : ℕ) → Tables → (kind mark handling : ℕ) → Outcome ℕ
+addRule n m t kind mark handling =
+    check 1 (shaped n m t) t
+    (check 2 (ltb kind n) t
+    (check 3 (ltb mark m) t
+    (check 4 (not (eqb handling 0)) t
+    (check 5 (sound n m t) t
+    (accepted n m t (t .links) (set (t .rules) (kind * m + mark) handling))))))
+
+unfoldable pub takeRule : (n m : ℕ) → Tables → (kind mark : ℕ) → Outcome ℕ
+takeRule n m t kind mark =
+    check 1 (shaped n m t) t
+    (check 2 (ltb kind n) t
+    (check 3 (ltb mark m) t
+    (check 5 (sound n m t) t
+    (check 6 (ownOf m (t .rules) mark kind) t
+    (accepted n m t (t .links) (set (t .rules) (kind * m + mark) 0))))))
+
+unfoldable pub addLink : (n m : ℕ) → Tables → (child parent : ℕ) → Outcome ℕ
+addLink n m t child parent =
+    check 1 (shaped n m t) t
+    (check 2 (ltb child n && ltb parent n) t
+    (check 5 (sound n m t) t
+    (check 7 (not (upOf n (t .links) child parent)) t
+    (check 9 (not (eqb parent child || above n (upOf n (t .links)) parent child)) t
+    (accepted n m t (set (t .links) (child * n + parent) 1) (t .rules))))))
+
+unfoldable pub takeLink : (n m : ℕ) → Tables → (child parent : ℕ) → Outcome ℕ
+takeLink n m t child parent =
+    check 1 (shaped n m t) t
+    (check 2 (ltb child n && ltb parent n) t
+    (check 5 (sound n m t) t
+    (check 8 (upOf n (t .links) child parent) t
+    (accepted n m t (set (t .links) (child * n + parent) 0) (t .rules)))))
+
+-- ---- Find
+
+-- a rule of kind o whose handling number is h; 10 where kind o has no own rule
+abbrev pub handled : ℕ → ℕ → Reply Finding
+handled o h = elim (eqb h 0) [ true ↦ refused 10 | false ↦ given (Finding.rule o h) ]
+
+-- what the entry says on a book of n kinds, where `rule o` is what kind o's own rule for the mark holds; 10 where it is neither 0, nor 1 to n,
+-- nor 257 to 256 + n
+unfoldable pub findingOf : ℕ → (rule : ℕ → ℕ) → (entry : ℕ) → Reply Finding
+findingOf n rule entry =
+    elim (eqb entry 0) [
+      | true ↦ given Finding.none
+      | false ↦ elim (leb entry n) [
+        | true ↦ handled (entry - 1) (rule (entry - 1))
+        | false ↦ elim (leb 257 entry && leb entry (256 + n)) [
+          | true ↦ given (Finding.dispute (entry - 257))
+          | false ↦ refused 10
+        ]
+      ]
+    ]
+
+unfoldable pub find : (n m : ℕ) → Tables → (kind mark : ℕ) → Outcome Finding
+find n m t kind mark =
+    check 1 (shaped n m t) t
+    (check 2 (ltb kind n) t
+    (check 3 (ltb mark m) t
+    (leaves (findingOf n (λ o. getD (t .rules) (o * m + mark) 0) (getD (t .entries) (kind * m + mark) 0)) t)))
+
+-- ---- Parties
+
+-- where the test fails the reply is the refusal of this number, and else as `next` says
+abbrev pub Check : {A : Type 0} → ℕ → Bool → Reply A → Type 0 → Type 0
+Check number true reply next = next
+Check number false reply next = reply ≡ refused number
+
+pub record TwoParties (n m : ℕ) (t : Tables) (kind mark : ℕ) (reply : Reply TwoKinds) : Type 0 where
+  pub pair : TwoKinds
+  pub gives : reply ≡ given pair
+  pub one-seen : Seen n (upOf n (t .links)) (ownOf m (t .rules) mark) kind (pair .one)
+  pub other-seen : Seen n (upOf n (t .links)) (ownOf m (t .rules) mark) kind (pair .other)
+  pub different : pair .one ≢ pair .other
+
+abbrev pub PartiesGive : (n m : ℕ) → Tables → (kind mark : ℕ) → Reply TwoKinds → Type 0
+PartiesGive n m t kind mark reply =
+    Check 1 (shaped n m t) reply
+    (Check 2 (ltb kind n) reply
+    (Check 3 (ltb mark m) reply
+    (Check 5 (sound n m t) reply
+    (Check 11 (leb 257 (getD (t .entries) (kind * m + mark) 0)) reply
+    (TwoParties n m t kind mark reply)))))
+
+-- ---- Inspect
+
+-- the lowest number below k that fails the test; k where none does
+unfoldable pub lowest : (ℕ → Bool) → ℕ → ℕ
+lowest f zero = 0
+lowest f (suc k) = elim (all-below f k) [ true ↦ elim (f k) [ true ↦ suc k | false ↦ k ] | false ↦ lowest f k ]
+
+-- the first fault, where the tests say whether the link bytes, the kinds and the entries are right, and the numbers which is the lowest that is not
+abbrev pub firstFault : (bytes kinds entries : Bool) → (byte kind entry : ℕ) → Fault
+firstFault false kinds entries byte kind entry = Fault.link-byte byte
+firstFault true false entries byte kind entry = Fault.above-itself kind
+firstFault true true false byte kind entry = Fault.wrong-entry entry
+firstFault true true true byte kind entry = Fault.sound
+
+-- the lowest place of a link byte above 1; the lowest kind above itself; the lowest place whose entry is not its lookup
+unfoldable pub faultOf : (n m : ℕ) → Tables → Fault
+faultOf n m t =
+    firstFault
+    (all-below (byte-right (t .links)) (n * n)) (all-below (kind-free n (t .links)) n) (all-below (entry-right n m t) (n * m))
+    (lowest (byte-right (t .links)) (n * n)) (lowest (kind-free n (t .links)) n) (lowest (entry-right n m t) (n * m))
+
+unfoldable pub inspect : (n m : ℕ) → Tables → Outcome Fault
+inspect n m t =
+    check 1 (shaped n m t) t
+    (leaves (given (faultOf n m t)) t)
+
+-- ---- Refresh
+
+unfoldable pub refresh : (n m : ℕ) → Tables → Outcome ℕ
+refresh n m t =
+    check 1 (shaped n m t) t
+    (check 5 (well-linked n (t .links)) t
+    (leaves (given (differing (t .entries) (entriesOf n m (t .links) (t .rules))))
+    (lent (t .links) (t .rules) (entriesOf n m (t .links) (t .rules)) (t .tally))))

@@ -1,0 +1,43 @@
+-- What document 01 says of an accepted edit that led from tables t to tables t′ and returned a count. EditLaws has it of the four edits.
+--     OnePlace                    a table is changed at its one place
+--     Edited                      what holds of every edit, where `Touches` says of the tables before or after which entries it can touch
+--     RuleEdited, LinkEdited      what holds of an edit of a rule, and of a link
+-- Assumes nothing.
+use mathlib.Core.Path.{_≡_}
+use mathlib.Core.Logic.{_≢_, _↔_}
+use mathlib.Core.Bool.{Bool, true, not}
+use mathlib.Core.List.{List}
+use Prim.Native.Nat.{ℕ, _+_, _*_, _<_}
+use lib.Dec.{eqb}
+use lib.ListN.{length, getD}
+use Rattle.inheritance.specs.Above.{count}
+use Rattle.tables.specs.Tables.{Tables, sound, tallied}
+use Rattle.tables.specs.Touch.{RuleTouches, LinkTouches}
+
+pub record OnePlace (old new : List ℕ) (place value : ℕ) : Type 0 where
+  pub size : length new ≡ length old
+  pub there : getD new place 0 ≡ value
+  pub elsewhere : (i : ℕ) → i ≢ place → getD new i 0 ≡ getD old i 0
+
+-- the numbers at place i are not the same
+abbrev pub apart : List ℕ → List ℕ → ℕ → Bool
+apart xs ys i = not (eqb (getD xs i 0) (getD ys i 0))
+
+pub record Edited (n m : ℕ) (Touches : Tables → ℕ → ℕ → Type 0) (t t′ : Tables) (returned : ℕ) : Type 0 where
+  pub sound-after : sound n m t′ ≡ true
+  pub tally-after : t′ .tally ≡ tallied (t .tally)
+  -- an entry differs only where the edit can touch it, and that comes out the same before and after
+  pub touched : (k j : ℕ) → k < n → j < m → getD (t .entries) (k * m + j) 0 ≢ getD (t′ .entries) (k * m + j) 0 → Touches t k j
+  pub same-reading : (k j : ℕ) → k < n → j < m → Touches t k j ↔ Touches t′ k j
+  -- the number of places kind × m + mark whose entry after it is not the entry before
+  pub counted : returned ≡ count (apart (t .entries) (t′ .entries)) (n * m)
+
+pub record RuleEdited (n m : ℕ) (kind mark handling : ℕ) (t t′ : Tables) (returned : ℕ) : Type 0 where
+  pub links-kept : t′ .links ≡ t .links
+  pub rule-changed : OnePlace (t .rules) (t′ .rules) (kind * m + mark) handling
+  pub edited : Edited n m (RuleTouches n m kind mark) t t′ returned
+
+pub record LinkEdited (n m : ℕ) (child parent byte : ℕ) (t t′ : Tables) (returned : ℕ) : Type 0 where
+  pub rules-kept : t′ .rules ≡ t .rules
+  pub link-changed : OnePlace (t .links) (t′ .links) (child * n + parent) byte
+  pub edited : Edited n m (LinkTouches n m child parent) t t′ returned

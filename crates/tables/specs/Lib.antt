@@ -1,0 +1,9 @@
+pub mod Books
+pub mod Calls
+pub mod Controller
+pub mod Edit
+pub mod Entry
+pub mod Reply
+pub mod Step
+pub mod Tables
+pub mod Touch

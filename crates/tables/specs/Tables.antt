@@ -1,0 +1,107 @@
+-- The four tables of a book of n kinds and m marks, as lists, and what they say.
+--     Tables        links, rules, entries and tally; lent: the tables that a call is lent
+--     shaped        n and m are in their ranges, and every table has exactly its length: else refusal 1
+--     upOf, ownOf   the links and, for one mark, the own rules
+--     entriesOf     every entry worked out from the links and the rules alone
+--     sound         document 01's sound tables: every link byte is 0 or 1, no kind is above itself, every entry equals its lookup
+--     differing     at how many places two tables differ
+--     tallied       one more accepted edit
+-- Assumes nothing.
+use mathlib.Core.Bool.{Bool, true, false, _&&_, not}
+use mathlib.Core.List.{List, [], _∷_, _++_}
+use Prim.Native.Nat.{ℕ, zero, suc, _+_, _*_}
+use lib.Dec.{eqb, leb, ltb}
+use lib.ListN.{length, getD}
+use Rattle.inheritance.specs.Above.{above}
+use Rattle.inheritance.specs.Lookup.{lookup}
+use Rattle.tables.specs.Entry.{entryOf}
+
+pub record Tables : Type 0 where
+  pub links : List ℕ
+  pub rules : List ℕ
+  pub entries : List ℕ
+  pub tally : List ℕ
+
+-- the tables as a call is lent them
+abbrev pub lent : (links rules entries tally : List ℕ) → Tables
+lent links rules entries tally = record { links = links; rules = rules; entries = entries; tally = tally }
+
+-- n is 1 to 128, m is 1 to 64, and the tables have exactly these lengths; a number of 16 bits takes `short` elements of its table, and one of
+-- 32 bits `long`
+unfoldable pub sized : (short long n m links rules entries tally : ℕ) → Bool
+sized short long n m links rules entries tally =
+    leb 1 n && leb n 128 && leb 1 m && leb m 64
+    && eqb links (n * n)
+    && eqb rules (short * (n * m))
+    && eqb entries (short * (n * m))
+    && eqb tally long
+
+abbrev pub shaped : ℕ → ℕ → Tables → Bool
+shaped n m t = sized 1 1 n m (length (t .links)) (length (t .rules)) (length (t .entries)) (length (t .tally))
+
+-- place child × n + parent holds 1 for a link
+abbrev pub upOf : ℕ → List ℕ → ℕ → ℕ → Bool
+upOf n links c p = eqb (getD links (c * n + p) 0) 1
+
+-- place kind × m + mark holds a handling number, or 0 for no own rule
+abbrev pub ownOf : ℕ → List ℕ → ℕ → ℕ → Bool
+ownOf m rules j c = not (eqb (getD rules (c * m + j) 0) 0)
+
+-- the entry of the lookup at kind c for mark j
+unfoldable pub entryAt : (n m : ℕ) → (up : ℕ → ℕ → Bool) → (rules : List ℕ) → ℕ → ℕ → ℕ
+entryAt n m up rules c j = entryOf (lookup n up (ownOf m rules j) c)
+
+-- f 0, f 1, … , f (k - 1)
+unfoldable pub listed : (ℕ → ℕ) → ℕ → List ℕ
+listed f zero = []
+listed f (suc k) = listed f k ++ (f k ∷ [])
+
+-- the rows of k kinds, m marks each
+unfoldable pub grid : (ℕ → ℕ → ℕ) → ℕ → ℕ → List ℕ
+grid f m zero = []
+grid f m (suc k) = grid f m k ++ listed (f k) m
+
+-- place kind × m + mark holds the entry of the lookup at (kind, mark)
+unfoldable pub entriesOf : ℕ → ℕ → List ℕ → List ℕ → List ℕ
+entriesOf n m links rules = grid (entryAt n m (upOf n links) rules) m n
+
+-- every number below k passes
+unfoldable pub all-below : (ℕ → Bool) → ℕ → Bool
+all-below f zero = true
+all-below f (suc k) = all-below f k && f k
+
+-- the link byte at a place is 0 or 1
+abbrev pub byte-right : List ℕ → ℕ → Bool
+byte-right links i = leb (getD links i 0) 1
+
+-- a kind is not above itself
+abbrev pub kind-free : ℕ → List ℕ → ℕ → Bool
+kind-free n links c = not (above n (upOf n links) c c)
+
+-- the entry at a place is its lookup
+abbrev pub entry-right : ℕ → ℕ → Tables → ℕ → Bool
+entry-right n m t i = eqb (getD (t .entries) i 0) (getD (entriesOf n m (t .links) (t .rules)) i 0)
+
+-- every link byte is 0 or 1, and no kind is above itself
+unfoldable pub well-linked : ℕ → List ℕ → Bool
+well-linked n links = all-below (byte-right links) (n * n) && all-below (kind-free n links) n
+
+unfoldable pub sound : ℕ → ℕ → Tables → Bool
+sound n m t = well-linked n (t .links) && all-below (entry-right n m t) (n * m)
+
+-- 1 where two numbers differ
+abbrev pub differ : ℕ → ℕ → ℕ
+differ x y = elim (eqb x y) [ true ↦ 0 | false ↦ 1 ]
+
+unfoldable pub differing : List ℕ → List ℕ → ℕ
+differing [] ys = 0
+differing (x ∷ xs) [] = 0
+differing (x ∷ xs) (y ∷ ys) = differ x y + differing xs ys
+
+-- at 4,294,967,295 it stays
+abbrev pub saturated : ℕ → ℕ
+saturated x = elim (ltb x 4294967295) [ true ↦ x + 1 | false ↦ x ]
+
+abbrev pub tallied : List ℕ → List ℕ
+tallied [] = []
+tallied (x ∷ xs) = saturated x ∷ xs
