@@ -1,0 +1,5 @@
+pub mod Bit
+pub mod Closed
+pub mod First
+pub mod Loaded
+pub mod Turned

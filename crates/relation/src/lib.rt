@@ -1,0 +1,192 @@
+// A relation over at most 128 kinds as rows of bits: its single places, the walk along a row, the closure over chains of
+// links, the rows turned round, and the rows of a book's links. `close`, `load` and `turn` say of every place what is
+// there after.
+ghost use mathlib.Core.Path.{_≡_};
+ghost use mathlib.Core.Bool.{_&&_};
+ghost use Prim.Native.Nat.{_+_, _-_, _*_, _<_, _≤_};
+ghost use lib.Dec.{eqb, ltb, leb};
+ghost use lib.ListN.{length};
+ghost use Rattle.relation.specs.Bit.{on, bit, Added, Removed};
+ghost use Rattle.relation.specs.Closed.{Closed, Swept, Gathered};
+ghost use Rattle.relation.specs.First.{First};
+ghost use Rattle.relation.specs.Loaded.{Loaded, Filled, Octet, rows-before};
+ghost use Rattle.relation.specs.Turned.{Turned};
+
+// Whether kind p is in row c.
+pub fn test(rows: &[u64; 256], c: usize, p: usize) -> bool
+    requires { ⌜ (c < 128) × (p < 128) ⌝ }
+    ensures { λ r. ⌜ r ≡ bit (now (rows .entry)) c p ⌝ }
+{
+    rows[2 * c + p / 64] >> (p % 64) & 1 == 1
+}
+
+// The first bit of the word at or after `from`; 64 where there is none.
+fn first(w: u64, from: usize) -> usize
+    requires { ⌜ from < 64 ⌝ }
+    ensures { λ r. ⌜ First (on w) from 64 r ⌝ }
+{
+    let zeros = u64::trailing_zeros(w >> from) as usize;
+    if zeros < 64 - from { from + zeros } else { 64 }
+}
+
+// The first kind at or after `from` that is in row c; 128 where there is none.
+pub fn next(rows: &[u64; 256], c: usize, from: usize) -> usize
+    requires { ⌜ (c < 128) × (from ≤ 128) ⌝ }
+    ensures { λ r. ⌜ First (bit (now (rows .entry)) c) from 128 r ⌝ }
+{
+    if from == 128 {
+        return 128;
+    }
+    if from >= 64 {
+        return 64 + first(rows[2 * c + 1], from - 64);
+    }
+    let low = first(rows[2 * c], from);
+    if low < 64 {
+        return low;
+    }
+    64 + first(rows[2 * c + 1], 0)
+}
+
+// Kind p is put into row c.
+pub fn mark(rows: &mut [u64; 256], c: usize, p: usize)
+    requires { ⌜ (length (now rows) ≡ 256) × (c < 128) × (p < 128) ⌝ }
+    ensures { λ _. ⌜ Added (now (rows .entry)) (now (rows .exit)) (λ d q. eqb d c && eqb q p) ⌝ }
+{
+    let i = 2 * c + p / 64;
+    rows[i] = rows[i] | 1 << (p % 64);
+}
+
+// Kind p is taken out of row c.
+pub fn unmark(rows: &mut [u64; 256], c: usize, p: usize)
+    requires { ⌜ (length (now rows) ≡ 256) × (c < 128) × (p < 128) ⌝ }
+    ensures { λ _. ⌜ Removed (now (rows .entry)) (now (rows .exit)) (λ d q. eqb d c && eqb q p) ⌝ }
+{
+    let i = 2 * c + p / 64;
+    let one = 1 << (p % 64);
+    rows[i] = (rows[i] | one) ^ one;
+}
+
+// Row k is joined into row c.
+pub fn join(rows: &mut [u64; 256], c: usize, k: usize)
+    requires { ⌜ (length (now rows) ≡ 256) × (c < 128) × (k < 128) ⌝ }
+    ensures { λ _. ⌜ Added (now (rows .entry)) (now (rows .exit)) (λ d q. eqb d c && bit (now (rows .entry)) k q) ⌝ }
+{
+    let i = 2 * c;
+    let j = 2 * k;
+    rows[i] = rows[i] | rows[j];
+    rows[i + 1] = rows[i + 1] | rows[j + 1];
+}
+
+// The kinds that are in a row below n are put into row 0 of `parents`.
+fn gather(rows: &[u64; 256], n: usize, parents: &mut [u64; 256])
+    requires { ⌜ (n ≤ 128) × (length (now parents) ≡ 256) ⌝ }
+    ensures { λ _. ⌜ Gathered n (now (rows .entry)) (now (parents .exit)) ⌝ }
+{
+    let mut low = 0u64;
+    let mut high = 0u64;
+    for c in 0..n {
+        low = low | rows[2 * c];
+        high = high | rows[2 * c + 1];
+    }
+    parents[0] = low;
+    parents[1] = high;
+}
+
+// Stage k of the closure: row k is joined into the rows below n that have k.
+fn sweep(rows: &mut [u64; 256], n: usize, k: usize)
+    requires { ⌜ (length (now rows) ≡ 256) × (n ≤ 128) × (k < 128) ⌝ }
+    ensures { λ _. ⌜ Swept k n (now (rows .entry)) (now (rows .exit)) ⌝ }
+{
+    for c in 0..n {
+        if test(rows, c, k) {
+            join(rows, c, k);
+        }
+    }
+}
+
+// The rows of the kinds below n are closed over chains of links, in place: Warshall's closure, by the largest kind that
+// a chain passes through. A kind that is in no row is passed through by none.
+pub fn close(rows: &mut [u64; 256], n: usize)
+    requires { ⌜ (length (now rows) ≡ 256) × (n ≤ 128) ⌝ }
+    ensures { λ _. ⌜ Closed n n (now (rows .entry)) (now (rows .exit)) ⌝ }
+{
+    let mut parents = [0u64; 256];
+    gather(rows, n, &mut parents);
+    for k in 0..n {
+        if test(&parents, 0, k) {
+            sweep(rows, n, k);
+        }
+    }
+}
+
+// The eight bytes at i as bits: bit k is set where byte i + k is 1.
+fn octet(links: &[u8], i: usize) -> u8
+    requires { ⌜ i + 8 ≤ length (now links) ⌝ }
+    ensures { λ r. ⌜ Octet (now (links .entry)) i 8 r ⌝ }
+{
+    let mut bits = 0u8;
+    for k in 0..8 {
+        bits = bits | ((links[i + k] == 1) as u8) << k;
+    }
+    bits
+}
+
+// The kinds 8 * q + k of the bits k are put into row c.
+fn mark_octet(rows: &mut [u64; 256], c: usize, q: usize, bits: u8)
+    requires { ⌜ (length (now rows) ≡ 256) × (c < 128) × (q < 16) × (bits < 256) ⌝ }
+    ensures { λ _. ⌜ Added (now (rows .entry)) (now (rows .exit)) (λ d p. eqb d c && (leb (8 * q) p && on bits (p - 8 * q))) ⌝ }
+{
+    let i = 2 * c + q / 8;
+    rows[i] = rows[i] | (bits as u64) << (8 * (q % 8));
+}
+
+// Row c gets its links, where the rows before it have theirs and nothing else is there. Eight bytes are taken at once.
+fn load_row(links: &[u8], n: usize, c: usize, rows: &mut [u64; 256])
+    requires { ⌜ (n * n ≤ length (now links)) × (n ≤ 128) × (c < n) × (Filled (rows-before c) n (now links) (now rows)) ⌝ }
+    ensures { λ _. ⌜ Filled (rows-before (c + 1)) n (now (links .entry)) (now (rows .exit)) ⌝ }
+{
+    for q in 0..n / 8 {
+        mark_octet(rows, c, q, octet(links, c * n + 8 * q));
+    }
+    for p in n / 8 * 8..n {
+        if links[c * n + p] == 1 {
+            mark(rows, c, p);
+        }
+    }
+}
+
+// The links of a book of n kinds are put into the rows, whatever was there. The byte at place child * n + parent is 1
+// where there is a link.
+pub fn load(links: &[u8], n: usize, rows: &mut [u64; 256])
+    requires { ⌜ (n * n ≤ length (now links)) × (n ≤ 128) ⌝ }
+    ensures { λ _. ⌜ Loaded n (now (links .entry)) (now (rows .exit)) ⌝ }
+{
+    *rows = [0u64; 256];
+    for c in 0..n {
+        load_row(links, n, c, rows);
+    }
+}
+
+// Kind c is put into row p of `turned` for each kind p below n that is in row c of `rows`.
+fn turn_row(rows: &[u64; 256], n: usize, c: usize, turned: &mut [u64; 256])
+    requires { ⌜ (n ≤ 128) × (c < n) × (length (now turned) ≡ 256) ⌝ }
+    ensures { λ _. ⌜ Added (now (turned .entry)) (now (turned .exit)) (λ p d. eqb d c && (ltb p n && bit (now (rows .entry)) c p)) ⌝ }
+{
+    let mut p = next(rows, c, 0);
+    while p < n {
+        mark(turned, p, c);
+        p = next(rows, c, p + 1);
+    }
+}
+
+// The rows of the kinds below n are turned round, whatever was in `turned`: kind c is in row p of `turned` where kind p
+// is in row c of `rows`.
+pub fn turn(rows: &[u64; 256], n: usize, turned: &mut [u64; 256])
+    requires { ⌜ n ≤ 128 ⌝ }
+    ensures { λ _. ⌜ Turned n (now (rows .entry)) (now (turned .exit)) ⌝ }
+{
+    *turned = [0u64; 256];
+    for c in 0..n {
+        turn_row(rows, n, c, turned);
+    }
+}
