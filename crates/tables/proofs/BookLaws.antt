@@ -23,14 +23,14 @@ use Rattle.tables.specs.Calls.{zeros}
 use Rattle.tables.specs.Books.{Call, after, run, Agree}
 use Rattle.tables.specs.Books.Call.{openBook, addRule, takeRule, addLink, takeLink, find, parties, inspect, refresh}
 use Rattle.tables.proofs.CallLaws.{check-given, check-holds, find-keeps, inspect-keeps}
-use Rattle.tables.proofs.ShapeLaws.{Shaped, shape-true}
+use Rattle.tables.proofs.ShapeLaws.{Shaped, sized-facts}
 use Rattle.tables.proofs.SoundLaws.{length-entriesOf}
 
 abbrev Fits : ℕ → ℕ → Tables → Type 0
 Fits n m t = Shaped 1 1 n m (length (t .links)) (length (t .rules)) (length (t .entries)) (length (t .tally))
 
 fits-true : (n m : ℕ) (t : Tables) → shaped n m t ≡ true → Fits n m t
-fits-true n m t e = shape-true 1 1 n m _ _ _ _ e
+fits-true n m t e = sized-facts 1 1 n m _ _ _ _ e
 
 -- ---- only one n and one m fit a book's tables
 

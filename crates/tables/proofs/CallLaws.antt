@@ -11,8 +11,8 @@ use mathlib.Core.Logic.{_≢_, _↔_}
 use mathlib.Core.List.{List}
 use Prim.Native.Nat.{ℕ, zero, suc, _+_, _-_, _*_, _<_, _≤_}
 use native.Mathlib.Omega.{arith}
-use borrow.Author.Tests.{ne-eqb, le-leb, lt-leb, lt-ltb, not-true, eqb-false}
-use lib.Dec.{eqb, leb}
+use borrow.Author.Tests.{lt-ltb, not-true, eqb-false}
+use lib.Dec.{eqb}
 use lib.ListN.{length, getD}
 use Rattle.inheritance.specs.declared.Lookup.{Lookup}
 use Rattle.inheritance.specs.declared.Lookup.the-variants.{None, Rule, Dispute}
@@ -23,7 +23,8 @@ use Rattle.tables.specs.Reply.{Reply, refused, given, Finding, Fault}
 use Rattle.tables.specs.Tables.{Tables, shaped, upOf, ownOf, entryAt, all-below, byte-right, kind-free, entry-right, well-linked, sound}
 use Rattle.tables.specs.Calls as calls
 use Rattle.tables.specs.Calls.{Outcome, check, leaves, findingOf, handled, lowest, firstFault, faultOf}
-use Rattle.tables.proofs.ShapeLaws.{shape-true}
+use Rattle.tables.proofs.FindingLaws.{finding-none, finding-rule, finding-dispute, handled-some}
+use Rattle.tables.proofs.ShapeLaws.{sized-facts}
 use Rattle.tables.proofs.SoundLaws.{sound-means, entries-looked}
 use Rattle.tables.proofs.TableLaws.{below-true}
 
@@ -110,32 +111,22 @@ findingFor rule (Rule o) = Finding.rule (o .0) (rule (o .0))
 findingFor rule (Dispute x) = Finding.dispute (x .0)
 
 module _ (n : ℕ) (kinds : n ≤ 128) (rule : ℕ → ℕ) where
-  finding-rule : (o : ℕ) → o < n → rule o ≢ 0 → findingOf n rule (o + 1) ≡ given (Finding.rule o (rule o))
-  unfolding findingOf
-  finding-rule o h some =
-      let same : o + 1 - 1 ≡ o = omega arith in
-      rw (ne-eqb (o + 1) 0 (omega arith), findingOf) (rw (le-leb (o + 1) n (omega arith))
-      (ap (λ (x : ℕ). handled x (rule x)) same ∙ rw (ne-eqb (rule o) 0 some, handled) refl))
-
-  finding-dispute : (x : ℕ) → x < n → findingOf n rule (257 + x) ≡ given (Finding.dispute x)
-  unfolding findingOf
-  finding-dispute x h =
-      let same : 257 + x - 257 ≡ x = omega arith in
-      rw (ne-eqb (257 + x) 0 (omega arith), findingOf) (rw (lt-leb (257 + x) n (omega arith))
-      (rw (le-leb 257 (257 + x) (omega arith), le-leb (257 + x) (256 + n) (omega arith), same) refl))
-
   finding-entry : (v : Lookup) → InRange n (λ c. not (eqb (rule c) 0)) v → findingOf n rule (entryOf v) ≡ given (findingFor rule v)
-  unfolding findingOf
-  finding-entry None r = refl
-  finding-entry (Rule o) r = finding-rule (o .0) (r .0) (eqb-false _ _ (not-true _ (r .1)))
-  finding-entry (Dispute x) r = finding-dispute (x .0) (r .0)
+  finding-entry None r = finding-none n rule 0 refl
+  finding-entry (Rule o) (below, own) =
+      let same : o .0 + 1 - 1 ≡ o .0 = omega arith in
+      let some = eqb-false (rule (o .0)) 0 (not-true _ own) in
+      finding-rule n rule (o .0 + 1) (omega arith) (omega arith) ∙ ap (λ (x : ℕ). handled x (rule x)) same ∙ handled-some (o .0) (rule (o .0)) (omega arith)
+  finding-entry (Dispute x) (below, _) =
+      let same : 257 + x .0 - 257 ≡ x .0 = omega arith in
+      finding-dispute n rule (257 + x .0) (omega arith) (omega arith) (omega arith) ∙ ap (λ (k : ℕ). given (Finding.dispute k)) same
 
 module _ (n m : ℕ) (t : Tables) (k j : ℕ) (fits : shaped n m t ≡ true) (k<n : k < n) (j<m : j < m) (is-sound : sound n m t ≡ true) where
   pub find-sound : calls.find n m t k j .reply
       ≡ given (findingFor (λ o. getD (t .rules) (o * m + j) 0) (lookup n (upOf n (t .links)) (ownOf m (t .rules) j) k))
   unfolding calls.find check entryAt
   find-sound =
-      let shape = shape-true 1 1 n m _ _ _ _ fits in
+      let shape = sized-facts 1 1 n m _ _ _ _ fits in
       let s = sound-means n m t (omega (arith, shape .entries-length)) is-sound in
       let looked = entries-looked n m (t .links) (t .rules) (t .entries) (s .entries) k j k<n j<m in
       rw (fits, lt-ltb k n k<n, lt-ltb j m j<m)

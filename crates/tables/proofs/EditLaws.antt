@@ -30,7 +30,7 @@ use Rattle.tables.specs.Touch.{RuleTouches, LinkTouches}
 use Rattle.tables.specs.Edit.{OnePlace, apart, Edited, RuleEdited, LinkEdited}
 use Rattle.tables.specs.Calls.{Outcome, accepted, addRule, takeRule, addLink, takeLink}
 use Rattle.tables.proofs.CallLaws.{check-given}
-use Rattle.tables.proofs.ShapeLaws.{Shaped, shape-true}
+use Rattle.tables.proofs.ShapeLaws.{Shaped, sized-facts}
 use Rattle.tables.proofs.SoundLaws.{Sound, sound-means, means-sound, length-entriesOf, entriesOf-at, entries-looked}
 use Rattle.tables.proofs.TableLaws.{place-split, differing-self, differing-count}
 
@@ -246,7 +246,7 @@ record Passed (n m : ℕ) (t : Tables) : Type 0 where
 
 passed : (n m : ℕ) (t : Tables) → shaped n m t ≡ true → sound n m t ≡ true → Passed n m t
 passed n m t fits is-sound =
-    let s = shape-true 1 1 n m _ _ _ _ fits in
+    let s = sized-facts 1 1 n m _ _ _ _ fits in
     let size : length (t .entries) ≡ n * m = omega (arith, s .entries-length) in
     record {
       kinds = s .kinds;

@@ -3,6 +3,7 @@ pub mod BookLaws
 pub mod CallLaws
 pub mod EditLaws
 pub mod EntryLaws
+pub mod FindingLaws
 pub mod ShapeLaws
 pub mod SoundLaws
 pub mod TableLaws

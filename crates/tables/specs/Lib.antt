@@ -1,3 +1,4 @@
+pub mod Ask
 pub mod Books
 pub mod Calls
 pub mod Controller

@@ -1,10 +1,16 @@
-// What the calls answer, and the 16-bit entry of a lookup.
+// What the calls answer, the 16-bit entry of a lookup, and the checks that the calls begin with.
+use inheritance::CheckedKind;
+use inheritance::CheckedMark;
 use inheritance::Kind;
 use inheritance::Lookup;
+use inheritance::Mark;
 ghost use mathlib.Core.Path.{_≡_};
-ghost use Prim.Native.Nat.{_<_};
+ghost use Prim.Native.Nat.{_+_, _*_, _<_};
+ghost use Rattle.inheritance.specs.Checked.{kindBelow, markBelow};
+ghost use Rattle.tables.specs.Ask.{asked};
 ghost use Rattle.tables.specs.Entry.{entryOf, lookupOf};
 ghost use Rattle.tables.specs.Reply.{refusalNumber};
+ghost use Rattle.tables.specs.Tables.{sized};
 
 // Why a call is refused. Document 01 gives each reason its number.
 pub enum Refusal {
@@ -57,6 +63,12 @@ pub enum Inspected {
     Refused(Refusal),
 }
 
+// A kind and a mark of the book that a call is put to, or its refusal.
+pub enum Asked {
+    At(Kind, Mark),
+    Refused(Refusal),
+}
+
 impl Refusal {
     // Document 01's number.
     pub fn number(self) -> u8
@@ -102,4 +114,52 @@ pub fn encode(lookup: Lookup) -> u16
         Lookup::Rule(k) => k.0 + 1,
         Lookup::Dispute(k) => 257 + k.0,
     }
+}
+
+// Whether n and m are in their ranges and the four tables have exactly their lengths, which are given. A number of 16 bits
+// takes short elements of its table, and one of 32 bits long. The && is for speed: with & in its place the find of the line
+// controllers takes a tenth longer.
+pub fn shape(
+    short: u16,
+    long: u16,
+    n: u16,
+    m: u16,
+    links: usize,
+    rules: usize,
+    entries: usize,
+    tally: usize,
+) -> bool
+    ensures { λ r. ⌜ r ≡ sized short long n m links rules entries tally ⌝ }
+{
+    let places = short as usize * (n as usize * m as usize);
+    (1 <= n)
+        & (n <= Kind::MOST)
+        & (1 <= m)
+        & (m <= Mark::MOST)
+        & (links == n as usize * n as usize)
+        & (rules == places)
+        && (entries == places) & (tally == long as usize)
+}
+
+// Where rules and entries hold what they say of a kind and a mark.
+pub fn place(kind: Kind, mark: Mark, m: u16) -> usize
+    ensures { λ r. ⌜ r ≡ kind .0 * m + mark .0 ⌝ }
+{
+    kind.0 as usize * m as usize + mark.0 as usize
+}
+
+// Refusals 1, 2 and 3, in this order: shaped says whether the tables have their lengths, and kind and mark are any numbers.
+pub fn ask(shaped: bool, n: u16, m: u16, kind: Kind, mark: Mark) -> Asked
+    ensures { λ r. ⌜ r ≡ asked shaped (kindBelow n (kind .0)) (markBelow m (mark .0)) ⌝ }
+{
+    if !shaped {
+        return Asked::Refused(Refusal::Shape);
+    }
+    let CheckedKind::Kind(k) = Kind::new(kind.0, n) else {
+        return Asked::Refused(Refusal::Kind);
+    };
+    let CheckedMark::Mark(j) = Mark::new(mark.0, m) else {
+        return Asked::Refused(Refusal::Mark);
+    };
+    Asked::At(k, j)
 }

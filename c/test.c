@@ -1,0 +1,634 @@
+/* Holds lane_find to a version of find that is written here in plain C from document 01: on the edges one by one, then
+   on random books, sound and damaged. It fails where the two differ, or where an outcome came up too seldom.
+
+   AddressSanitizer sees the reads of this file but not those of the library, which is compiled without it. So this file
+   reads tables that malloc made exactly as long as they are, and the library is lent copies that stand against pages
+   that cannot be read: a read outside ends the test. */
+
+#define _DEFAULT_SOURCE /* for MAP_ANONYMOUS */
+
+#include <stdio.h>
+#include <stdlib.h>
+#include <string.h>
+#include <sys/mman.h>
+#include <unistd.h>
+
+#include "lane.h"
+
+/* ---- books */
+
+struct table {
+    uint8_t *bytes;
+    size_t length;
+};
+
+struct book {
+    unsigned n, m;
+    struct table links, rules, entries, tally;
+};
+
+static struct table make_table(size_t length) {
+    struct table table = {malloc(length), length};
+    if (table.bytes == NULL && length > 0) {
+        perror("malloc");
+        exit(EXIT_FAILURE);
+    }
+    if (length > 0) {
+        memset(table.bytes, 0, length);
+    }
+    return table;
+}
+
+/* Gives a table another length: its leading part stays, and what is new is 0. */
+static void resize(struct table *table, size_t length) {
+    struct table other = make_table(length);
+    size_t kept = length < table->length ? length : table->length;
+    if (kept > 0) {
+        memcpy(other.bytes, table->bytes, kept);
+    }
+    free(table->bytes);
+    *table = other;
+}
+
+/* A book of the right lengths, every number 0. */
+static struct book make_book(unsigned n, unsigned m) {
+    size_t places = (size_t)n * m;
+    struct book book = {n, m, make_table((size_t)n * n), make_table(2 * places), make_table(2 * places), make_table(4)};
+    return book;
+}
+
+static void free_book(struct book *book) {
+    free(book->links.bytes);
+    free(book->rules.bytes);
+    free(book->entries.bytes);
+    free(book->tally.bytes);
+}
+
+static unsigned number_at(const struct table *table, size_t place) {
+    return table->bytes[2 * place] + 256u * table->bytes[2 * place + 1];
+}
+
+static void put_number(struct table *table, size_t place, unsigned number) {
+    table->bytes[2 * place] = (uint8_t)(number % 256);
+    table->bytes[2 * place + 1] = (uint8_t)(number / 256);
+}
+
+/* ---- find, from document 01 */
+
+enum outcome {
+    NONE,
+    RULE,
+    DISPUTE,
+    KINDS_OUTSIDE,
+    MARKS_OUTSIDE,
+    LINKS_LENGTH,
+    RULES_LENGTH,
+    ENTRIES_LENGTH,
+    TALLY_LENGTH,
+    NO_SUCH_KIND,
+    NO_SUCH_MARK,
+    ENTRY_OUTSIDE,
+    RULE_MISSING,
+    OUTCOMES
+};
+
+static const char *const outcome_names[OUTCOMES] = {
+    "none",
+    "rule",
+    "dispute",
+    "1, number of kinds",
+    "1, number of marks",
+    "1, length of links",
+    "1, length of rules",
+    "1, length of entries",
+    "1, length of tally",
+    "2, no such kind",
+    "3, no such mark",
+    "10, entry outside",
+    "10, rule missing",
+};
+
+struct answer {
+    enum outcome outcome;
+    unsigned kind, handling; /* of a rule; of a dispute only the kind */
+    uint32_t number;
+};
+
+static struct answer refuse(enum outcome why, uint32_t number) {
+    struct answer answer = {why, 0, 0, number};
+    return answer;
+}
+
+/* Refusal 1, test by test, or NONE where the size is right. */
+static enum outcome size_fault(const struct book *book) {
+    size_t n = book->n, m = book->m;
+    if (n < 1 || n > 128) {
+        return KINDS_OUTSIDE;
+    }
+    if (m < 1 || m > 64) {
+        return MARKS_OUTSIDE;
+    }
+    if (book->links.length != n * n) {
+        return LINKS_LENGTH;
+    }
+    if (book->rules.length != n * m * 2) {
+        return RULES_LENGTH;
+    }
+    if (book->entries.length != n * m * 2) {
+        return ENTRIES_LENGTH;
+    }
+    return book->tally.length != 4 ? TALLY_LENGTH : NONE;
+}
+
+static struct answer find(const struct book *book, unsigned kind, unsigned mark) {
+    enum outcome fault = size_fault(book);
+    if (fault != NONE) {
+        return refuse(fault, 1);
+    }
+    if (kind >= book->n) {
+        return refuse(NO_SUCH_KIND, 2);
+    }
+    if (mark >= book->m) {
+        return refuse(NO_SUCH_MARK, 3);
+    }
+    struct answer answer = {NONE, 0, 0, 0};
+    unsigned entry = number_at(&book->entries, kind * book->m + mark);
+    if (entry == 0) {
+        return answer;
+    }
+    for (unsigned k = 0; k < book->n; k++) {
+        answer.kind = k;
+        if (entry == k + 1) {
+            answer.outcome = RULE;
+            answer.handling = number_at(&book->rules, k * book->m + mark);
+            answer.number = 65536 * (k + 1) + answer.handling;
+            return answer.handling == 0 ? refuse(RULE_MISSING, 10) : answer;
+        }
+        if (entry == 257 + k) {
+            answer.outcome = DISPUTE;
+            answer.number = 65536 * (257 + k);
+            return answer;
+        }
+    }
+    return refuse(ENTRY_OUTSIDE, 10);
+}
+
+/* ---- tables lent to the library */
+
+enum { ROOM = 1 << 17 }; /* bytes between the two pages that cannot be read: a whole number of pages */
+
+enum standing { AT_THE_END, AT_THE_START, AT_AN_ODD_ADDRESS, STANDINGS };
+
+struct lent {
+    const uint8_t *links, *rules, *entries, *tally;
+};
+
+static uint8_t *make_room(void) {
+    size_t page = (size_t)sysconf(_SC_PAGESIZE);
+    uint8_t *all = mmap(NULL, ROOM + 2 * page, PROT_NONE, MAP_PRIVATE | MAP_ANONYMOUS, -1, 0);
+    if (all == MAP_FAILED || ROOM % page != 0 || mprotect(all + page, ROOM, PROT_READ | PROT_WRITE) != 0) {
+        perror("mmap");
+        exit(EXIT_FAILURE);
+    }
+    return all + page;
+}
+
+/* Copies a table into a room of its own. A table of no bytes is NULL in one of the standings. */
+static const uint8_t *lend_table(uint8_t **room, const struct table *table, enum standing standing) {
+    if (*room == NULL) {
+        *room = make_room();
+    }
+    size_t odd = standing == AT_AN_ODD_ADDRESS;
+    if (table->length + odd > ROOM) {
+        fprintf(stderr, "a table of %zu bytes is too long for this test\n", table->length);
+        exit(EXIT_FAILURE);
+    }
+    uint8_t *start = standing == AT_THE_END ? *room + (ROOM - table->length) : *room + odd;
+    if (table->length == 0) {
+        return standing == AT_THE_START ? NULL : start;
+    }
+    memcpy(start, table->bytes, table->length);
+    return start;
+}
+
+static struct lent lend(const struct book *book, enum standing standing) {
+    static uint8_t *rooms[4];
+    struct lent lent = {
+        lend_table(&rooms[0], &book->links, standing),
+        lend_table(&rooms[1], &book->rules, standing),
+        lend_table(&rooms[2], &book->entries, standing),
+        lend_table(&rooms[3], &book->tally, standing),
+    };
+    return lent;
+}
+
+static bool same(const struct table *table, const uint8_t *lent) {
+    return table->length == 0 || memcmp(table->bytes, lent, table->length) == 0;
+}
+
+/* ---- the comparison */
+
+static unsigned long mistakes, counts[OUTCOMES];
+
+static void mistake(const char *what, const struct book *book, unsigned kind, unsigned mark, uint32_t got,
+                    uint32_t want) {
+    mistakes++;
+    if (mistakes <= 10) {
+        printf("WRONG: %s: n %u, m %u, lengths %zu %zu %zu %zu, kind %u, mark %u: %lu, and not %lu\n", what, book->n,
+               book->m, book->links.length, book->rules.length, book->entries.length, book->tally.length, kind, mark,
+               (unsigned long)got, (unsigned long)want);
+    }
+}
+
+static uint32_t ask_library(const struct book *book, const struct lent *lent, unsigned kind, unsigned mark) {
+    return lane_find((uint16_t)book->n, (uint16_t)book->m, lent->links, book->links.length, lent->rules,
+                     book->rules.length, lent->entries, book->entries.length, lent->tally, book->tally.length,
+                     (uint16_t)kind, (uint16_t)mark);
+}
+
+/* Whether lane.h takes a number apart as it was put together. */
+static bool read_back(const struct answer *answer) {
+    uint32_t number = answer->number;
+    bool rule = answer->outcome == RULE, dispute = answer->outcome == DISPUTE;
+    return lane_is_rule(number) == rule && lane_is_dispute(number) == dispute &&
+           lane_is_refusal(number) == (answer->outcome > DISPUTE) &&
+           (!(rule || dispute) || lane_kind(number) == answer->kind) &&
+           (!rule || lane_handling(number) == answer->handling);
+}
+
+static struct answer compare(const struct book *book, const struct lent *lent, unsigned kind, unsigned mark) {
+    struct answer want = find(book, kind, mark);
+    uint32_t got = ask_library(book, lent, kind, mark);
+    if (got != want.number) {
+        mistake("lane_find", book, kind, mark, got, want.number);
+    }
+    if (!read_back(&want)) {
+        mistake("lane.h", book, kind, mark, got, want.number);
+    }
+    return want;
+}
+
+/* ---- the edges, one by one */
+
+/* Both versions give the number wanted, wherever the tables stand. */
+static void expect(const char *what, const struct book *book, unsigned kind, unsigned mark, uint32_t want) {
+    for (unsigned standing = 0; standing < STANDINGS; standing++) {
+        struct lent lent = lend(book, (enum standing)standing);
+        struct answer answer = compare(book, &lent, kind, mark);
+        if (answer.number != want) {
+            mistake(what, book, kind, mark, answer.number, want);
+        }
+    }
+}
+
+/* The entry is put at the last kind and mark, and every kind has the handling 7 for that mark. */
+static void expect_entry(unsigned n, unsigned m, unsigned entry, uint32_t want) {
+    struct book book = make_book(n, m);
+    for (unsigned kind = 0; kind < n; kind++) {
+        put_number(&book.rules, kind * m + m - 1, 7);
+    }
+    put_number(&book.entries, n * m - 1, entry);
+    expect("an entry", &book, n - 1, m - 1, want);
+    free_book(&book);
+}
+
+static void edges_of_entries(void) {
+    static const unsigned ns[] = {1, 2, 4, 127, 128}, ms[] = {1, 2, 64};
+    for (size_t i = 0; i < sizeof ns / sizeof *ns; i++) {
+        for (size_t j = 0; j < sizeof ms / sizeof *ms; j++) {
+            unsigned n = ns[i], m = ms[j];
+            expect_entry(n, m, 0, 0);
+            expect_entry(n, m, 1, 65536 + 7);
+            expect_entry(n, m, n, 65536 * n + 7);
+            expect_entry(n, m, n + 1, 10);
+            expect_entry(n, m, 256, 10);
+            expect_entry(n, m, 257, 65536 * 257);
+            expect_entry(n, m, 256 + n, 65536 * (256 + n));
+            expect_entry(n, m, 257 + n, 10);
+            expect_entry(n, m, 512, 10);
+            expect_entry(n, m, 32768, 10);
+            expect_entry(n, m, 65535, 10);
+        }
+    }
+}
+
+static void edges_of_handling(void) {
+    struct book book = make_book(4, 2);
+    put_number(&book.entries, 3 * 2 + 1, 2 + 1);
+    expect("handling 0", &book, 3, 1, 10);
+    put_number(&book.rules, 2 * 2 + 1, 1);
+    expect("handling 1", &book, 3, 1, 65536 * 3 + 1);
+    put_number(&book.rules, 2 * 2 + 1, 65535);
+    expect("handling 65535", &book, 3, 1, 65536 * 3 + 65535);
+    put_number(&book.rules, 2 * 2 + 1, 256);
+    expect("handling 256, whose lowest byte is 0", &book, 3, 1, 65536 * 3 + 256);
+    book.rules.bytes[2 * (2 * 2 + 1)] = 2;
+    book.rules.bytes[2 * (2 * 2 + 1) + 1] = 1;
+    expect("the lowest byte first", &book, 3, 1, 65536 * 3 + 258);
+    put_number(&book.rules, 2 * 2 + 1, 0);
+    put_number(&book.rules, 2 * 2, 9);
+    put_number(&book.rules, 3 * 2 + 1, 9);
+    expect("a rule for the other mark, and of another kind", &book, 3, 1, 10);
+    put_number(&book.entries, 3 * 2 + 1, 257 + 2);
+    expect("a dispute at a kind without a rule", &book, 3, 1, 65536 * 259);
+    put_number(&book.rules, 2 * 2 + 1, 9);
+    expect("a dispute at a kind with a rule", &book, 3, 1, 65536 * 259);
+    memset(book.links.bytes, 255, book.links.length);
+    memset(book.tally.bytes, 255, book.tally.length);
+    expect("links that no book has, and a full tally", &book, 3, 1, 65536 * 259);
+    free_book(&book);
+}
+
+/* A book of the right lengths for n and m, which may be outside their ranges. */
+static void expect_size(unsigned n, unsigned m, uint32_t want) {
+    struct book book = make_book(n, m);
+    expect("a size", &book, 0, 0, want);
+    free_book(&book);
+}
+
+static void edges_of_size(void) {
+    expect_size(0, 1, 1);
+    expect_size(1, 0, 1);
+    expect_size(0, 0, 1);
+    expect_size(1, 1, 0);
+    expect_size(128, 1, 0);
+    expect_size(129, 1, 1);
+    expect_size(256, 1, 1);
+    expect_size(1, 64, 0);
+    expect_size(1, 65, 1);
+    expect_size(1, 256, 1);
+    expect_size(1, 32768, 1);
+    expect_size(128, 64, 0);
+    expect_size(129, 64, 1);
+    expect_size(128, 65, 1);
+    expect_size(129, 65, 1);
+    expect_size(64, 128, 1);
+
+    struct book book = make_book(1, 1);
+    book.n = 65535; /* whose square is 1 in 16 bits */
+    expect("n 65535", &book, 0, 0, 1);
+    book.m = 65535;
+    expect("n and m 65535", &book, 0, 0, 1);
+    book.n = 1;
+    expect("m 65535", &book, 0, 0, 1);
+    book.m = 32769; /* 2 * m is 2 in 16 bits */
+    expect("m 32769", &book, 0, 0, 1);
+    book.m = 1;
+    expect("n 1 and m 1 again", &book, 0, 0, 0);
+    resize(&book.links, 0);
+    book.n = 256; /* whose square is 0 in 16 bits */
+    expect("n 256", &book, 0, 0, 1);
+    free_book(&book);
+}
+
+/* One table of a book of 4 kinds and 2 marks gets another length. */
+static void expect_length(unsigned which, size_t length, uint32_t want) {
+    struct book book = make_book(4, 2);
+    struct table *const tables[] = {&book.links, &book.rules, &book.entries, &book.tally};
+    resize(tables[which], length);
+    expect("a length", &book, 3, 1, want);
+    expect("a length, and no such kind or mark", &book, 4, 2, want == 0 ? 2 : 1);
+    free_book(&book);
+}
+
+static void edges_of_lengths(void) {
+    static const size_t right[] = {16, 16, 16, 4};
+    for (unsigned which = 0; which < 4; which++) {
+        expect_length(which, right[which], 0);
+        expect_length(which, right[which] - 2, 1);
+        expect_length(which, right[which] - 1, 1);
+        expect_length(which, right[which] + 1, 1);
+        expect_length(which, right[which] + 2, 1);
+        expect_length(which, right[which] / 2, 1);
+        expect_length(which, right[which] * 2, 1);
+        expect_length(which, right[which] + 65536, 1);
+        expect_length(which, 1, 1);
+        expect_length(which, 0, 1);
+    }
+    struct book book = make_book(0, 0);
+    resize(&book.tally, 0);
+    expect("no tables, n and m 0", &book, 0, 0, 1);
+    book.n = 4;
+    book.m = 2;
+    expect("no tables", &book, 0, 0, 1);
+    free_book(&book);
+    if (lane_find(4, 2, NULL, 0, NULL, 0, NULL, 0, NULL, 0, 0, 0) != 1) {
+        mistakes++;
+        puts("WRONG: NULL with length 0");
+    }
+}
+
+static void edges_of_questions(void) {
+    struct book book = make_book(4, 2);
+    put_number(&book.entries, 3 * 2 + 1, 5);
+    expect("the last kind and mark, with a damaged entry", &book, 3, 1, 10);
+    expect("the entry before it", &book, 3, 0, 0);
+    expect("kind n", &book, 4, 0, 2);
+    expect("kind n and mark m", &book, 4, 2, 2);
+    expect("kind 256", &book, 256, 0, 2);
+    expect("kind 65535", &book, 65535, 65535, 2);
+    expect("mark m", &book, 3, 2, 3);
+    expect("mark m, which would be the place of the damaged entry", &book, 0, 7, 3);
+    expect("mark 256", &book, 0, 256, 3);
+    expect("mark 65535", &book, 0, 65535, 3);
+    free_book(&book);
+}
+
+/* ---- random books */
+
+static unsigned chance(unsigned below) {
+    static uint64_t state = 88172645463325252u;
+    state ^= state << 13;
+    state ^= state >> 7;
+    state ^= state << 17;
+    return (unsigned)(state >> 33) % below;
+}
+
+/* A number from 1 to most; the two ends come often. */
+static unsigned size_up_to(unsigned most) {
+    unsigned way = chance(8);
+    return way == 0 ? 1 : way == 1 ? most : 1 + chance(most);
+}
+
+/* The lookup's entry at a kind and a mark, once its parents' entries are right. */
+static unsigned looked_up(const struct book *book, unsigned kind, unsigned mark) {
+    if (number_at(&book->rules, kind * book->m + mark) != 0) {
+        return kind + 1;
+    }
+    unsigned left = 0;
+    for (unsigned parent = 0; parent < book->n; parent++) {
+        if (book->links.bytes[kind * book->n + parent] == 1) {
+            unsigned entry = number_at(&book->entries, parent * book->m + mark);
+            if (left != 0 && entry != 0 && entry != left) {
+                return 257 + kind;
+            }
+            left = left == 0 ? entry : left;
+        }
+    }
+    return left;
+}
+
+/* A sound book: kinds come in some order, each under at most three before it. */
+static struct book sound_book(void) {
+    struct book book = make_book(size_up_to(128), size_up_to(64));
+    unsigned order[128], ruled = 2 + chance(12);
+    for (unsigned i = 0; i < book.n; i++) {
+        unsigned j = chance(i + 1);
+        order[i] = order[j];
+        order[j] = i;
+    }
+    for (unsigned i = 0; i < book.n; i++) {
+        for (unsigned parents = i == 0 ? 0 : chance(4); parents > 0; parents--) {
+            book.links.bytes[order[i] * book.n + order[chance(i)]] = 1;
+        }
+        for (unsigned mark = 0; mark < book.m; mark++) {
+            size_t place = order[i] * book.m + mark;
+            put_number(&book.rules, place, chance(ruled) == 0 ? 1 + chance(65535) : 0);
+            put_number(&book.entries, place, looked_up(&book, order[i], mark));
+        }
+    }
+    put_number(&book.tally, 0, chance(65536));
+    return book;
+}
+
+/* An entry of any sort, with those beside the edges often. */
+static unsigned any_entry(unsigned n) {
+    const unsigned edges[] = {0, 1, n, n + 1, 255, 256, 257, 256 + n, 257 + n, 65535};
+    switch (chance(4)) {
+    case 0:
+        return edges[chance(10)];
+    case 1:
+        return 1 + chance(n);
+    case 2:
+        return 257 + chance(n);
+    default:
+        return chance(65536);
+    }
+}
+
+static void damage_entries(struct book *book) {
+    for (unsigned place = 0; place < book->n * book->m; place++) {
+        if (chance(2) == 0) {
+            put_number(&book->entries, place, any_entry(book->n));
+        }
+        if (chance(4) == 0) {
+            put_number(&book->rules, place, chance(3) == 0 ? chance(65536) : 0);
+        }
+    }
+}
+
+static void damage_length(struct table *table) {
+    switch (chance(6)) {
+    case 0:
+        resize(table, table->length + 1);
+        break;
+    case 1:
+        resize(table, table->length < 1 ? 0 : table->length - 1);
+        break;
+    case 2:
+        resize(table, table->length + 2);
+        break;
+    case 3:
+        resize(table, table->length < 2 ? 0 : table->length - 2);
+        break;
+    case 4:
+        resize(table, 0);
+        break;
+    default:
+        resize(table, chance(40000));
+        break;
+    }
+}
+
+/* Another n or m, mostly outside; where the tables' lengths fit the room of this test, they go along half the time. */
+static void damage_size(struct book *book) {
+    static const unsigned ns[] = {0, 129, 130, 255, 256, 257, 65535}, ms[] = {0, 65, 66, 128, 256, 32769, 65535};
+    unsigned n = chance(2) == 0 ? book->n : chance(4) == 0 ? chance(65536) : ns[chance(7)];
+    unsigned m = n != book->n ? book->m : chance(4) == 0 ? chance(65536) : ms[chance(7)];
+    size_t links = (size_t)n * n, places = (size_t)n * m;
+    book->n = n;
+    book->m = m;
+    if (chance(2) == 0 && links < ROOM && 2 * places < ROOM) {
+        resize(&book->links, links);
+        resize(&book->rules, 2 * places);
+        resize(&book->entries, 2 * places);
+    }
+}
+
+static void damage_shape(struct book *book) {
+    struct table *const tables[] = {&book->links, &book->rules, &book->entries, &book->tally};
+    switch (chance(4)) {
+    case 0:
+        damage_size(book);
+        break;
+    case 1:
+        damage_length(tables[chance(4)]);
+        damage_length(tables[chance(4)]);
+        break;
+    default:
+        damage_length(tables[chance(4)]);
+        break;
+    }
+}
+
+/* A number mostly below the limit. */
+static unsigned question(unsigned limit) {
+    switch (chance(12)) {
+    case 0:
+        return chance(2) == 0 ? limit : 65535;
+    case 1:
+        return chance(65536);
+    default:
+        return chance(limit == 0 ? 1 : limit);
+    }
+}
+
+/* Puts questions to a book and counts what comes of them. */
+static void ask(const struct book *book, unsigned questions, bool sound) {
+    static unsigned turn;
+    struct lent lent = lend(book, (enum standing)(turn++ % STANDINGS));
+    for (unsigned i = 0; i < questions; i++) {
+        unsigned kind = question(book->n) % 65536, mark = question(book->m) % 65536;
+        struct answer answer = compare(book, &lent, kind, mark);
+        counts[answer.outcome]++;
+        if (sound && answer.number == 10) {
+            mistake("a sound book", book, kind, mark, 10, 0);
+        }
+    }
+    if (!same(&book->links, lent.links) || !same(&book->rules, lent.rules) || !same(&book->entries, lent.entries) ||
+        !same(&book->tally, lent.tally)) {
+        mistake("a table was written", book, 0, 0, 0, 0);
+    }
+}
+
+static void random_books(unsigned books) {
+    for (unsigned i = 0; i < books; i++) {
+        struct book book = sound_book();
+        ask(&book, 1000, true);
+        damage_entries(&book);
+        ask(&book, 1000, false);
+        damage_shape(&book);
+        ask(&book, 50, false);
+        free_book(&book);
+    }
+}
+
+int main(void) {
+    enum { BOOKS = 4000, LEAST = 500 };
+    edges_of_entries();
+    edges_of_handling();
+    edges_of_size();
+    edges_of_lengths();
+    edges_of_questions();
+    printf("edges done, %lu mistakes\n", mistakes);
+    random_books(BOOKS);
+    for (unsigned i = 0; i < OUTCOMES; i++) {
+        printf("%8lu times %s\n", counts[i], outcome_names[i]);
+        if (counts[i] < LEAST) {
+            mistakes++;
+            printf("WRONG: that is fewer than %d\n", LEAST);
+        }
+    }
+    printf("%d random books done, %lu mistakes in all\n", BOOKS, mistakes);
+    return mistakes == 0 ? EXIT_SUCCESS : EXIT_FAILURE;
+}

@@ -1,0 +1,4 @@
+-- The laws that the proofs of the calls rest on.
+pub mod FindLaws
+pub mod OpenLaws
+pub mod StopLaws

@@ -1,0 +1,16 @@
+// Where a change of a rule stops: at the kinds that have their own rule for the mark.
+ghost use mathlib.Core.Path.{_≡_};
+ghost use Prim.Native.Nat.{_*_, _<_, _≤_};
+ghost use lib.ListN.{length};
+ghost use Rattle.calls.specs.Stops.{Stops};
+
+// The kinds with an own rule for the mark become the stops, whatever was there.
+pub fn own_rules(rules: &[u16], n: usize, m: usize, mark: usize, stops: &mut [u8; 128])
+    requires { ⌜ (n ≤ 128) × (mark < m) × (length (now rules) ≡ n * m) ⌝ }
+    ensures { λ _. ⌜ Stops n m (now (rules .entry)) mark (now (stops .exit)) ⌝ }
+{
+    *stops = [0u8; 128];
+    for c in 0..n {
+        stops[c] = (rules[c * m + mark] != 0) as u8;
+    }
+}

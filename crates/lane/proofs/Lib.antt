@@ -1,0 +1,3 @@
+-- The laws that the proof of the line controllers' find rests on.
+pub mod ByteLaws
+pub mod PackedLaws

@@ -1,0 +1,144 @@
+-- `lane::answer` meets its contract: both places that it reads are within the tables, and its tests are those of document 01,
+-- so that the tests that led to a return say which answer is packed there. Assumes nothing.
+use mathlib.Core.Path.{_≡_, refl, sym, ap, _∙_}
+use Prim.Native.Nat.{ℕ, _+_, _-_, _*_, _<_, _≤_}
+use native.Mathlib.Omega.{arith}
+use lib.ListN.{length, getD}
+use denote.Ref.{now}
+use borrow.Author.Needs.{needs}
+use borrow.Author.Tests.{leb-true}
+use Rattle.tables.specs.Reply.{Reply, Finding}
+use Rattle.tables.specs.Calls.{handled, findingOf}
+use Rattle.tables.specs.Controller.{words16, packed}
+use lib.Arith.{digits-lt}
+use Rattle.tables.proofs.ShapeLaws.{and-iff}
+use Rattle.tables.proofs.FindingLaws.{handled-none, handled-some, finding-rule}
+use Rattle.lane.proofs.PackedLaws.{packed-plain, packed-bad}
+use Rattle.lane.proofs.answer.Statement.{statement}
+use Rattle.lane.proofs.answer.Tie as tie
+
+abbrev start : tie.After-place → tie.Start
+start c = c .before .before .before
+
+entry-within : (c : tie.After-place) → 2 * c .place .result + 1 < length (now (start c .args .entries))
+entry-within c =
+    let within = start c .pre in
+    omega (arith, c .place .ensures, within .entries-length, digits-lt (within .kind-below) (within .mark-below))
+
+abbrev before-tests : tie.After-word → tie.Start
+before-tests c = start (c .before)
+
+-- a kind's own rule for the mark
+abbrev own : tie.After-word → ℕ → ℕ
+own c o = let a = before-tests c .args in getD (words16 (now (a .rules))) (o * a .m + a .j .0) 0
+
+-- the answer to the entry
+abbrev finding : tie.After-word → Reply Finding
+finding c =
+    let a = before-tests c .args in
+    findingOf (a .n) (own c) (getD (words16 (now (a .entries))) (a .k .0 * a .m + a .j .0) 0)
+
+is-read : (c : tie.After-word) → finding c ≡ findingOf (before-tests c .args .n) (own c) (c .word .result)
+is-read c = rw (← c .before .place .ensures, ← c .word .ensures) refl
+
+rule-here : (c : tie.Then1) → (1 ≤ c .before .word .result) × (c .before .word .result ≤ before-tests (c .before) .args .n)
+rule-here c =
+    let both = c .if1 .taken in
+    let tests = simp and-iff at both in
+    (leb-true _ _ (tests .0), leb-true _ _ (tests .1))
+
+handling-within : (c : tie.After-place2) → 2 * c .place2 .result + 1 < length (now (before-tests (c .before .before) .args .rules))
+handling-within c =
+    let within = before-tests (c .before .before) .pre in
+    let here = rule-here (c .before) in
+    let below : c .before .before .word .result - 1 < before-tests (c .before .before) .args .n = omega arith in
+    omega (arith, c .place2 .ensures, within .rules-length, digits-lt below (within .mark-below))
+
+abbrev in-rule : tie.After-word2 → tie.After-word
+in-rule c = c .before .before .before
+
+is-rule : (c : tie.After-word2) → finding (in-rule c) ≡ handled (in-rule c .word .result - 1) (c .word2 .result)
+is-rule c =
+    let e = in-rule c in
+    let here = rule-here (c .before .before) in
+    is-read e
+    ∙ finding-rule (before-tests e .args .n) (own e) (e .word .result) (here .0) (here .1)
+    ∙ rw (← c .before .place2 .ensures, ← c .word2 .ensures) refl
+
+place-requires : tie.Need-place-requires
+place-requires c κs = search needs
+
+word-requires : tie.Need-word-requires
+word-requires c κs = entry-within c
+
+sub-t15 : tie.Need-sub-t15
+sub-t15 c = rule-here c .0
+
+place-requires-2 : tie.Need-place-requires-2
+place-requires-2 c κs = search needs
+
+word-requires-2 : tie.Need-word-requires-2
+word-requires-2 c κs = handling-within c
+
+cast-result : tie.Need-cast-result
+cast-result c = search needs
+
+mul-result : tie.Need-mul-result
+mul-result c = search needs
+
+cast-result-2 : tie.Need-cast-result-2
+cast-result-2 c = search needs
+
+add-result : tie.Need-add-result
+add-result c = search needs
+
+add-if3 : tie.Need-add-if3
+add-if3 c = search needs
+
+cast-result-3 : tie.Need-cast-result-3
+cast-result-3 c = search needs
+
+mul-result-2 : tie.Need-mul-result-2
+mul-result-2 c = search needs
+
+returns : tie.Need-returns
+returns c = sym (ap packed (is-rule (c .before) ∙ handled-none _ _ (c .if2 .taken)))
+
+returns-2 : tie.Need-returns-2
+returns-2 c =
+    let h = c .before .word2 .result in
+    let some : 0 < h = omega (arith, c .if2 .left) in
+    rw (is-rule (c .before) ∙ handled-some _ h some) (omega (arith, rule-here (c .before .before .before)))
+
+returns-3 : tie.Need-returns-3
+returns-3 c =
+    let e = c .before .before in
+    let n = before-tests e .args .n in
+    sym (ap packed (is-read e) ∙ packed-plain n (e .word .result) (own e) (before-tests e .pre .kinds) (c .if3 .taken))
+
+returns-4 : tie.Need-returns-4
+returns-4 c =
+    let e = c .before .before in
+    let n = before-tests e .args .n in
+    sym (ap packed (is-read e) ∙ packed-bad n (e .word .result) (own e) (c .before .if1 .left) (c .if3 .left))
+
+pub answer-spec : {M : Type 1} → statement M
+answer-spec =
+    tie.close
+    (tie.spec
+    place-requires
+    word-requires
+    sub-t15
+    place-requires-2
+    word-requires-2
+    cast-result
+    mul-result
+    cast-result-2
+    add-result
+    add-if3
+    cast-result-3
+    mul-result-2
+    returns
+    returns-2
+    returns-3
+    returns-4)

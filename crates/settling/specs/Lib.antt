@@ -1,0 +1,3 @@
+pub mod Examined
+pub mod Row
+pub mod Settled
