@@ -1,1 +1,5 @@
+pub mod Edits
+pub mod Faults
+pub mod Gathered
+pub mod Parties
 pub mod Stops

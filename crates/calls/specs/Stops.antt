@@ -1,4 +1,4 @@
--- The stops of a walk down the links.
+-- The stops of a walk along the links.
 --     Stops    the kinds below k are stops where they have their own rule for the mark
 -- Assumes nothing.
 use mathlib.Core.Path.{_≡_}

@@ -1,4 +1,4 @@
-// Where a change of a rule stops: at the kinds that have their own rule for the mark.
+// Where a walk along the links stops: at the kinds that have their own rule for the mark.
 ghost use mathlib.Core.Path.{_≡_};
 ghost use Prim.Native.Nat.{_*_, _<_, _≤_};
 ghost use lib.ListN.{length};

@@ -2,6 +2,7 @@
 --     rows-links                         rows that are loaded have the links
 --     rows-acyclic, acyclic-rows         no kind is above itself by the rows just where none is by the links
 --     entries-looked, looked-entries     a table of lookups by the rows is `entriesOf` of the links and the rules
+--     free-tests                         a kind is in its own closed row just where it is above itself
 --     links-tests, sound-tests           the tests of the code are those of `well-linked` and `sound`
 --     sound-means                        of sound tables: no kind is above itself, and the entries are `entriesOf`
 -- Assumes nothing.
@@ -38,13 +39,13 @@ module _ (n : ℕ) (links rows : List ℕ) (kinds : n ≤ 128) (loaded : Loaded 
   acyclic-rows acyclic c h = rows-above c h ∙ acyclic c h
 
   module _ (closed : List ℕ) (closes : Closed n n rows closed) where
-    above-tests : all-below (λ c. not (bit closed c c)) n ≡ all-below (kind-free n links) n
+    pub free-tests : (c : ℕ) → c < n → not (bit closed c c) ≡ kind-free n links c
     unfolding above
-    above-tests = below-same _ _ n (λ c h. ap not (closes .bits c c h (omega arith) ∙ rows-above c h))
+    free-tests c h = ap not (closes .bits c c h (omega arith) ∙ rows-above c h)
 
     pub links-tests : length links ≡ n * n → (all-below (byte-right links) (length links) && all-below (λ c. not (bit closed c c)) n) ≡ well-linked n links
     unfolding well-linked
-    links-tests size = ap₂ _&&_ (ap (all-below (byte-right links)) size) above-tests
+    links-tests size = ap₂ _&&_ (ap (all-below (byte-right links)) size) (below-same _ _ n free-tests)
 
   module _ (m : ℕ) (rules entries : List ℕ) (size : length entries ≡ n * m) where
     pub sound-tests : (tally : List ℕ) → (well-linked n links && right n m (bit rows) rules entries) ≡ sound n m (lent links rules entries tally)

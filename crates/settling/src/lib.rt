@@ -232,7 +232,7 @@ fn rank_all(closed: &[u64; 256], n: usize, visited: &[u8; 128], ranked: &mut [u6
 }
 
 // An entry is written. 1 where it was another.
-fn put(entries: &mut [u16], i: usize, e: u16) -> u16
+pub fn put(entries: &mut [u16], i: usize, e: u16) -> u16
     requires { ⌜ i < length (now entries) ⌝ }
     ensures { λ r. ⌜ (now (entries .exit) ≡ set (now (entries .entry)) i e) × (r ≡ differ (getD (now (entries .entry)) i 0) e) × (r ≤ 1) ⌝ }
 {

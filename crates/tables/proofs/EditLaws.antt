@@ -2,6 +2,8 @@
 --     addRule-edits, takeRule-edits     the one rule changes, and `RuleEdited` holds
 --     addLink-edits, takeLink-edits     the one link changes, and `LinkEdited` holds
 --     replaced-none                     a replaced handling returns 0
+--     Passed, passed                    what a call knows whose checks of shape and soundness were passed
+--     added-acyclic, taken-acyclic      no kind is above itself after a link is added or taken
 -- Each says: only the stated place of rules or links changes; the tables are sound again; entries differ only where the edit can touch, which comes
 -- out the same before and after; the count is the number of places whose entry differs; the tally counts one more.
 -- Assumes nothing.
@@ -237,24 +239,45 @@ module _ (n m : ℕ) (t : Tables) (size : length (t .entries) ≡ n * m) (before
 -- ---- the four edits
 
 -- what a call knows whose checks of shape and soundness were passed
-record Passed (n m : ℕ) (t : Tables) : Type 0 where
-  kinds : (1 ≤ n) × (n ≤ 128)
-  links-size : length (t .links) ≡ n * n
-  rules-size : length (t .rules) ≡ n * m
-  entries-size : length (t .entries) ≡ n * m
-  before : Sound n m t
+pub record Passed (n m : ℕ) (t : Tables) : Type 0 where
+  pub kinds : (1 ≤ n) × (n ≤ 128)
+  pub marks : (1 ≤ m) × (m ≤ 64)
+  pub links-size : length (t .links) ≡ n * n
+  pub rules-size : length (t .rules) ≡ n * m
+  pub entries-size : length (t .entries) ≡ n * m
+  pub before : Sound n m t
 
-passed : (n m : ℕ) (t : Tables) → shaped n m t ≡ true → sound n m t ≡ true → Passed n m t
+pub passed : (n m : ℕ) (t : Tables) → shaped n m t ≡ true → sound n m t ≡ true → Passed n m t
 passed n m t fits is-sound =
     let s = sized-facts 1 1 n m _ _ _ _ fits in
     let size : length (t .entries) ≡ n * m = omega (arith, s .entries-length) in
     record {
       kinds = s .kinds;
+      marks = s .marks;
       links-size = s .links-length;
       rules-size = omega (arith, s .rules-length);
       entries-size = size;
       before = sound-means n m t size is-sound;
     }
+
+or-false : (a : Bool) {b : Bool} → (a || b) ≡ false → (a ≡ false) × (b ≡ false)
+or-false true e = absurd (true≢false e)
+or-false false e = (refl, e)
+
+module _ (n m : ℕ) (t : Tables) (s : Passed n m t) (child parent : ℕ) (child-in : child < n) (parent-in : parent < n) where
+  changed-but : (byte : ℕ) → byte ≤ 1 → SameBut n (upOf n (t .links)) (upOf n (set (t .links) (child * n + parent) byte)) child parent
+  changed-but byte small = same-but n m t (s .entries-size) (s .before) child parent byte child-in parent-in (s .links-size) small
+
+  changed-there : (byte : ℕ) → byte ≤ 1 → upOf n (set (t .links) (child * n + parent) byte) child parent ≡ eqb byte 1
+  changed-there byte small = up-set n m t (s .entries-size) (s .before) child parent byte child-in parent-in (s .links-size) small
+
+  pub added-acyclic : (eqb parent child || above n (upOf n (t .links)) parent child) ≡ false → Acyclic n (upOf n (set (t .links) (child * n + parent) 1))
+  added-acyclic e =
+      let (ne, free) = or-false (eqb parent child) e in
+      link-acyclic n (upOf n (t .links)) _ child parent (changed-but 1 (omega arith)) (λ same. eqb-false _ _ ne (sym same)) free (s .before .acyclic)
+
+  pub taken-acyclic : Acyclic n (upOf n (set (t .links) (child * n + parent) 0))
+  taken-acyclic = unlink-acyclic n (upOf n (t .links)) _ child parent (changed-but 0 (omega arith)) (changed-there 0 (omega arith)) (s .before .acyclic)
 
 module _ (n m : ℕ) (t : Tables) where
   pub addRule-edits : (kind mark handling returned : ℕ) → addRule n m t kind mark handling .reply ≡ given returned
@@ -286,31 +309,24 @@ module _ (n m : ℕ) (t : Tables) where
       check-given 9 t _ P _ λ no-cycle is.
       let s = passed n m t fits is-sound in
       let (child-in, parent-in) = and-eq-true-iff (ltb child n) _ .0 kinds-in in
-      go (ltb-true _ _ child-in) (ltb-true _ _ parent-in) s (or-false (eqb parent child) (not-true _ no-cycle)) is
+      go (ltb-true _ _ child-in) (ltb-true _ _ parent-in) s (not-true _ no-cycle) is
     where
-      or-false : (a : Bool) {b : Bool} → (a || b) ≡ false → (a ≡ false) × (b ≡ false)
-      or-false true e = absurd (true≢false e)
-      or-false false e = (refl, e)
-
-      go : child < n → parent < n → Passed n m t → (eqb parent child ≡ false) × (above n (upOf n (t .links)) parent child ≡ false)
+      go : child < n → parent < n → Passed n m t → (eqb parent child || above n (upOf n (t .links)) parent child) ≡ false
           → accepted n m t (set (t .links) (child * n + parent) 1) (t .rules) .reply ≡ given returned
           → LinkEdited n m child parent 1 t (accepted n m t (set (t .links) (child * n + parent) 1) (t .rules) .tables) returned
-      go child-in parent-in s (ne, free) is =
+      go child-in parent-in s no-cycle is =
           link-edits n m t (s .entries-size) (s .before) child parent 1 child-in parent-in (s .links-size) (omega arith) acyclic apart returned is
         where
           up′ : ℕ → ℕ → Bool
           up′ = upOf n (set (t .links) (child * n + parent) 1)
 
           acyclic : Acyclic n up′
-          acyclic =
-              link-acyclic n (upOf n (t .links)) up′ child parent
-              (same-but n m t (s .entries-size) (s .before) child parent 1 child-in parent-in (s .links-size) (omega arith))
-              (λ same. eqb-false _ _ ne (sym same)) free (s .before .acyclic)
+          acyclic = added-acyclic n m t s child parent child-in parent-in no-cycle
 
           -- a chain from the parent up to the child and the new link would close a cycle
           apart : (own : ℕ → Bool) → ¬ Below n up′ own child parent
-          apart own b = ⊎-elim (λ same. eqb-false _ _ ne same)
-              (λ chain. no-chain n up′ acyclic child-in (step parent-in (up-set n m t (s .entries-size) (s .before) child parent 1 child-in parent-in (s .links-size) (omega arith)) chain))
+          apart own b = ⊎-elim (λ same. eqb-false _ _ (or-false (eqb parent child) no-cycle .0) same)
+              (λ chain. no-chain n up′ acyclic child-in (step parent-in (changed-there n m t s child parent child-in parent-in 1 (omega arith)) chain))
               (below-chain n up′ own b)
 
   pub takeLink-edits : (child parent returned : ℕ) → takeLink n m t child parent .reply ≡ given returned
@@ -336,13 +352,13 @@ module _ (n m : ℕ) (t : Tables) where
           up′ = upOf n (set (t .links) (child * n + parent) 0)
 
           gone : up′ child parent ≡ false
-          gone = up-set n m t (s .entries-size) (s .before) child parent 0 child-in parent-in (s .links-size) (omega arith)
+          gone = changed-there n m t s child parent child-in parent-in 0 (omega arith)
 
           same : SameBut n up up′ child parent
-          same = same-but n m t (s .entries-size) (s .before) child parent 0 child-in parent-in (s .links-size) (omega arith)
+          same = changed-but n m t s child parent child-in parent-in 0 (omega arith)
 
           acyclic : Acyclic n up′
-          acyclic = unlink-acyclic n up up′ child parent same gone (s .before .acyclic)
+          acyclic = taken-acyclic n m t s child parent child-in parent-in
 
           -- a chain from the parent up to the child was there before, and closed a cycle with the link
           round : Chain n up′ parent child → ⊥

@@ -1,0 +1,21 @@
+/* The four edits by hand in C: the same checks and the same answers as the proved calls, on the same tables. */
+#ifndef TWIN_H
+#define TWIN_H
+#include <stddef.h>
+#include <stdint.h>
+
+/* A book: n kinds, m marks and its four tables. */
+struct book {
+    uint16_t n, m;
+    uint8_t *links;
+    uint16_t *rules, *entries;
+    uint32_t *tally;
+    size_t links_len, rules_len, entries_len, tally_len;
+};
+
+/* The count of entries that differ, or 65536 + the refusal's number. */
+uint32_t twin_add_rule(const struct book *b, uint16_t kind, uint16_t mark, uint16_t handling);
+uint32_t twin_take_rule(const struct book *b, uint16_t kind, uint16_t mark);
+uint32_t twin_add_link(const struct book *b, uint16_t child, uint16_t parent);
+uint32_t twin_take_link(const struct book *b, uint16_t child, uint16_t parent);
+#endif

@@ -1,0 +1,96 @@
+-- `calls::disputing::answer` meets its contract: the tests are those of refusals 5 and 11, and past both two rule kinds are seen.
+-- Assumes nothing.
+use mathlib.Core.Path.{_≡_, sym, _∙_}
+use mathlib.Core.Bool.{true}
+use mathlib.Core.List.{List, []}
+use Prim.Native.Nat.{ℕ, _+_, _*_, _<_, _≤_}
+use native.Mathlib.Omega.{arith}
+use lib.Arith.{digits-lt}
+use lib.ListN.{length, getD}
+use denote.Ref.{now}
+use borrow.Author.Needs.{needs}
+use borrow.Author.Tests.{not-true, not-false}
+use Rattle.tables.specs.Tables.{Tables, lent, sound}
+use Rattle.calls.proofs.PartyLaws.{unsound, no-dispute, disputed, dispute-two, pair-parties}
+use Rattle.calls.proofs.disputing.answer.Statement.{statement}
+use Rattle.calls.proofs.disputing.answer.Tie as tie
+
+abbrev start : tie.After-examine → tie.Start
+start c = c .before .before .before .before .before .before
+
+abbrev book : tie.After-examine → List ℕ → Tables
+book c tally = let a = start c .args in lent (now (a .links)) (now (a .rules)) (now (a .entries)) tally
+
+is-sound : (c : tie.Else1) (tally : List ℕ) → let a = start (c .before) .args in sound (a .n) (a .m) (book (c .before) tally) ≡ true
+is-sound c tally = sym (c .before .examine .ensures .answer tally) ∙ not-false _ (c .if1 .left)
+
+entry-within : (c : tie.After-place) → c .place .result < length (now (start (c .before .before) .args .entries))
+entry-within c =
+    let within = start (c .before .before) .pre .0 in
+    omega (arith, c .place .ensures, digits-lt (within .kind-below) (within .mark-below))
+
+-- the entry is a dispute
+is-dispute : (c : tie.Else2) → let a = start (c .before .before .before .before) .args in
+    257 ≤ getD (now (a .entries)) (a .k .0 * a .m + a .j .0) 0
+is-dispute c = rw (← c .before .before .place .ensures) (omega (arith, c .if2 .left))
+
+examine-requires : tie.Need-examine-requires
+examine-requires c κs = search needs
+
+returns : tie.Need-returns
+returns c tally = unsound _ _ _ _ _ (sym (c .before .examine .ensures .answer tally) ∙ not-true _ (c .if1 .taken))
+
+place-requires : tie.Need-place-requires
+place-requires c κs = search needs
+
+mul-if2 : tie.Need-mul-if2
+mul-if2 c = omega (arith, entry-within c)
+
+shared-slice-read-if2 : tie.Need-shared-slice-read-if2
+shared-slice-read-if2 c = entry-within (c .before)
+
+returns-2 : tie.Need-returns-2
+returns-2 c tally =
+    let p = c .before .before in
+    no-dispute _ _ _ _ _ (is-sound (p .before) tally) (rw (← p .place .ensures) (omega (arith, c .if2 .taken)))
+
+cast-seen-pair : tie.Need-cast-seen-pair
+cast-seen-pair c = search needs
+
+cast-seen-pair-2 : tie.Need-cast-seen-pair-2
+cast-seen-pair-2 c = search needs
+
+seen-pair-requires : tie.Need-seen-pair-requires
+seen-pair-requires c κs =
+    let d = c .before .before .before in
+    let e = d .before .before .before .before in
+    let s = start e in
+    let within = s .pre .0 in (
+      (within .kinds, within .kind-below, within .mark-below, omega arith),
+      dispute-two _ _ (book e []) _ (within .kinds) (e .examine .ensures .related .loaded) (within .kind-below) (within .mark-below)
+          (omega (arith, within .entries-length)) (is-sound (d .before .before .before) []) (is-dispute d),
+    )
+
+returns-3 : tie.Need-returns-3
+returns-3 c tally =
+    let d = c .before .before .before .before in
+    let e = d .before .before .before .before in
+    let within = start e .pre .0 in
+    disputed _ _ _ _ _ (is-sound (d .before .before .before) tally) (is-dispute d)
+    (pair-parties _ _ (book e tally) _ (within .kinds) (e .examine .ensures .related .loaded) (within .kind-below) (within .mark-below)
+    (c .seen-pair .ensures))
+
+pub answer-spec : {M : Type 1} → statement M
+answer-spec =
+    tie.close
+    (tie.spec
+    examine-requires
+    returns
+    place-requires
+    mul-if2
+    shared-slice-read-if2
+    returns-2
+    cast-seen-pair
+    cast-seen-pair-2
+    seen-pair-requires
+    returns-3)

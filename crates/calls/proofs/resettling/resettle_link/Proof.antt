@@ -1,0 +1,28 @@
+-- `calls::resettling::resettle_link` meets its contract: no kind is a stop. Assumes nothing.
+use mathlib.Core.Path.{_≡_, sym, ap}
+use mathlib.Core.Bool.{false, not}
+use Prim.Native.Nat.{ℕ, _≤_}
+use native.Mathlib.Omega.{arith}
+use lib.Dec.{eqb}
+use Rattle.relation.proofs.Filling.{getD-zeros}
+use Rattle.calls.proofs.ResettleLaws.{untouched-stops}
+use borrow.Author.Needs.{needs}
+use Rattle.calls.proofs.resettling.resettle_link.Statement.{statement}
+use Rattle.calls.proofs.resettling.resettle_link.Tie as tie
+
+resettle-requires : tie.Need-resettle-requires
+resettle-requires c κs =
+    let s = c .before .before .before .before in
+    let p = s .pre in (
+      (p .0 .0, record { most = p .0 .0 .marks; low = omega arith; high = omega arith }, p .0 .1),
+      (p .1 .0, untouched-stops _ _ _ _ _ _ _ _ (λ _. false) _ (λ k h. sym (ap (λ (x : ℕ). not (eqb x 0)) (getD-zeros 128 k))) (p .1 .1)),
+    )
+
+same-length : tie.Need-same-length
+same-length c = search needs
+
+returns : tie.Need-returns
+returns c = search needs
+
+pub resettle-link-spec : {M : Type 1} → statement M
+resettle-link-spec = tie.close (tie.spec resettle-requires same-length returns)

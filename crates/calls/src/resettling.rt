@@ -1,0 +1,92 @@
+// The entries after a change: the kinds that it can touch are found by the walk down the links, and settled.
+use crate::stops::own_rules;
+use propagation::touched;
+use relation::turn;
+use settling::settle;
+ghost use mathlib.Core.Bool.{false};
+ghost use Prim.Native.Nat.{_+_, _<_};
+ghost use Rattle.inheritance.specs.Above.{Acyclic};
+ghost use Rattle.propagation.specs.Spread.{stop};
+ghost use Rattle.relation.specs.Bit.{bit};
+ghost use Rattle.relation.specs.Closed.{Closed};
+ghost use Rattle.settling.specs.Row.{Sized, Marks};
+ghost use Rattle.settling.specs.Settled.{Settled};
+ghost use Rattle.tables.specs.Tables.{ownOf};
+ghost use Rattle.calls.specs.Edits.{Untouched};
+
+// The entries for the marks from lo to below hi become their lookups after a change at kind e that goes no farther than
+// the stops. How many were others.
+fn resettle(
+    rows: &[u64; 256],
+    closed: &[u64; 256],
+    n: usize,
+    m: usize,
+    lo: usize,
+    hi: usize,
+    stops: &[u8; 128],
+    e: usize,
+    rules: &[u16],
+    entries: &mut [u16],
+) -> u16
+    requires { ⌜ (Sized n m (now rules) (now entries)) × (Marks m lo hi) × (e < n) ⌝ }
+    requires { ⌜ (Closed n n (now rows) (now closed)) × (Acyclic n (bit (now rows))) ⌝ }
+    requires { ⌜ Untouched n m lo hi (bit (now rows)) (stop (now stops)) e (now rules) (now entries) ⌝ }
+    ensures { λ k. ⌜ Settled n m lo hi (bit (now (rows .entry))) (now (rules .entry)) (now (entries .entry)) (now (entries .exit)) k ⌝ }
+{
+    let mut children = [0u64; 256];
+    turn(rows, n, &mut children);
+    let mut visited = [0u8; 128];
+    touched(&children, n, stops, e, &mut visited);
+    settle(rows, closed, n, m, lo, hi, &visited, rules, entries)
+}
+
+// The same after a change of the rule of a kind for a mark: no other mark is touched, and an own rule stops it.
+pub fn resettle_rule(
+    rows: &[u64; 256],
+    closed: &[u64; 256],
+    n: usize,
+    m: usize,
+    kind: usize,
+    mark: usize,
+    rules: &[u16],
+    entries: &mut [u16],
+) -> u16
+    requires { ⌜ (Sized n m (now rules) (now entries)) × (kind < n) × (mark < m) ⌝ }
+    requires { ⌜ (Closed n n (now rows) (now closed)) × (Acyclic n (bit (now rows))) ⌝ }
+    requires { ⌜ Untouched n m mark (mark + 1) (bit (now rows)) (ownOf m (now rules) mark) kind (now rules) (now entries) ⌝ }
+    ensures { λ k. ⌜ Settled n m mark (mark + 1) (bit (now (rows .entry))) (now (rules .entry)) (now (entries .entry)) (now (entries .exit)) k ⌝ }
+{
+    let mut stops = [0u8; 128];
+    own_rules(rules, n, m, mark, &mut stops);
+    resettle(
+        rows,
+        closed,
+        n,
+        m,
+        mark,
+        mark + 1,
+        &stops,
+        kind,
+        rules,
+        entries,
+    )
+}
+
+// The same after a change of a link of a child: every mark is worked out, at every kind below the child.
+pub fn resettle_link(
+    rows: &[u64; 256],
+    closed: &[u64; 256],
+    n: usize,
+    m: usize,
+    child: usize,
+    rules: &[u16],
+    entries: &mut [u16],
+) -> u16
+    requires { ⌜ (Sized n m (now rules) (now entries)) × (child < n) ⌝ }
+    requires { ⌜ (Closed n n (now rows) (now closed)) × (Acyclic n (bit (now rows))) ⌝ }
+    requires { ⌜ Untouched n m 0 m (bit (now rows)) (λ _. false) child (now rules) (now entries) ⌝ }
+    ensures { λ k. ⌜ Settled n m 0 m (bit (now (rows .entry))) (now (rules .entry)) (now (entries .entry)) (now (entries .exit)) k ⌝ }
+{
+    let stops = [0u8; 128];
+    resettle(rows, closed, n, m, 0, m, &stops, child, rules, entries)
+}

@@ -1,0 +1,18 @@
+-- `house::house_inspect` meets its contract. Assumes nothing.
+use mathlib.Core.Path.{_∙_, ap}
+use borrow.Author.Needs.{needs}
+use Rattle.house.specs.Packed.{packedFault}
+use Rattle.house.proofs.house_inspect.Statement.{statement}
+use Rattle.house.proofs.house_inspect.Tie as tie
+
+inspect-requires : tie.Need-inspect-requires
+inspect-requires c κs = search needs
+
+pack-inspected-requires : tie.Need-pack-inspected-requires
+pack-inspected-requires c κs = search needs
+
+returns : tie.Need-returns
+returns c = c .pack-inspected .ensures ∙ ap packedFault (c .before .inspect .ensures)
+
+pub house-inspect-spec : {M : Type 1} → statement M
+house-inspect-spec = tie.close (tie.spec inspect-requires pack-inspected-requires returns)

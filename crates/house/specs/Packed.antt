@@ -1,0 +1,43 @@
+-- What the calls answer as one 32-bit number, for callers in C. A refusal is 65,536 + its number.
+--     packedOpened    0 for an accepted open
+--     packedEdited    the count
+--     packedPair      256 × one + the other
+--     GivesPair       some reply that parties may give, packed
+--     Answers         a call's outcome as callers in C get it: one number, and the tables that it leaves
+--     packedFault     sound is 0; a link byte's place, a kind and an entry's place are told apart by their upper half
+-- Assumes nothing.
+use mathlib.Core.Path.{_≡_}
+use Prim.Native.Nat.{ℕ, _+_, _*_}
+use Rattle.tables.specs.Calls.{Outcome, PartiesGive}
+use Rattle.tables.specs.Reply.{Reply, refused, given, Fault, TwoKinds}
+use Rattle.tables.specs.Tables.{Tables}
+
+abbrev pub packedOpened : Reply (Unit {0}) → ℕ
+packedOpened (refused number) = 65536 + number
+packedOpened (given _) = 0
+
+abbrev pub packedEdited : Reply ℕ → ℕ
+packedEdited (refused number) = 65536 + number
+packedEdited (given count) = count
+
+abbrev pub packedPair : Reply TwoKinds → ℕ
+packedPair (refused number) = 65536 + number
+packedPair (given pair) = 256 * pair .one + pair .other
+
+abbrev pub packedFault : Reply Fault → ℕ
+packedFault (refused number) = 65536 + number
+packedFault (given Fault.sound) = 0
+packedFault (given (Fault.link-byte place)) = 131072 + place
+packedFault (given (Fault.above-itself kind)) = 196608 + kind
+packedFault (given (Fault.wrong-entry place)) = 262144 + place
+
+-- the number is that of some reply that parties may give
+pub record GivesPair (n m : ℕ) (t : Tables) (kind mark : ℕ) (r : ℕ) : Type 0 where
+  pub reply : Reply TwoKinds
+  pub gives : PartiesGive n m t kind mark reply
+  pub packs : r ≡ packedPair reply
+
+-- the number that is returned and the tables at the end are those of the outcome
+pub record Answers {A : Type 0} (pack : Reply A → ℕ) (outcome : Outcome A) (number : ℕ) (tables : Tables) : Type 0 where
+  pub returned : number ≡ pack (outcome .reply)
+  pub left : tables ≡ outcome .tables
