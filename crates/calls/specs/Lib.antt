@@ -1,3 +1,4 @@
+pub mod Carried
 pub mod Edits
 pub mod Faults
 pub mod Gathered

@@ -1,4 +1,5 @@
 // The calls on a book, each in a file of its own.
+mod carrying;
 mod disputing;
 mod finding;
 mod gathering;
@@ -11,6 +12,8 @@ mod rules;
 mod stops;
 mod tallying;
 
+pub use carrying::Call;
+pub use carrying::carry_out;
 pub use disputing::parties;
 pub use finding::find;
 pub use inspecting::inspect;
