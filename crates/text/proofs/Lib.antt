@@ -4,3 +4,4 @@ pub mod PatternLaws
 pub mod FormLaws
 pub mod Matching
 pub mod Printing
+pub mod PrintedLaws
