@@ -1,6 +1,6 @@
-/* Writes a session: make_session KINDS MARKS LINES EDITS. It opens a book, builds a sparse one (one or two parents a kind, a rule at about one place in
-   sixteen; later at most four parents, and a rule at most at one place in eight), and goes on with LINES lines, of which EDITS in a hundred are edits, one in a hundred is refused or no form, and the others are finds.
-   The same arguments give the same session. */
+/* Writes a session: make_session KINDS MARKS LINES EDITS. It opens a book and builds a sparse one: one or two parents a kind, a rule at about one place
+   in sixteen. Then come LINES lines, of which EDITS in a hundred are edits, one in a hundred is refused, and the others are finds; the edits keep to
+   four parents a kind and to rules at one place in eight. The same arguments give the same session. */
 #include <stdint.h>
 #include <stdio.h>
 #include <stdlib.h>

@@ -116,20 +116,12 @@ fn main() {
 (find 3 0)\n\
 (find 3 1)\n\
 (find 4 0)\n\
-(open 129 64)\n\
-(open 128 65)\n\
-(find 3 0)\n\
+(open 129 64)\n(open 128 65)\n(find 3 0)\n\
 (add (under 3 3))\n\
-(add (rule 3 1 0))\n\
-(add (rule 3 1 1))\n\
-(find 3 1)\n\
-(add (rule 3 1 65535))\n\
-(find 3 1)\n\
+(add (rule 3 1 0))\n(add (rule 3 1 1))\n(find 3 1)\n(add (rule 3 1 65535))\n(find 3 1)\n\
 (these 64 bytes are as many as a line may have, and are no form)\n\
 (these 65 bytes are one more than any line may have, and no form)\n\
-(open 128 64)\n\
-(find 127 63)\n\
-(add (under 127 127))\n";
+(open 128 64)\n(find 127 63)\n(add (under 127 127))\n";
     run(
         lines,
         &mut links,

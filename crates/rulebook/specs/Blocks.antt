@@ -5,7 +5,7 @@
 --     Put        a line and a line feed are put into a buffer
 -- Assumes nothing.
 use mathlib.Core.Path.{_≡_}
-use mathlib.Core.List.{List, []}
+use mathlib.Core.List.{List}
 use Prim.Native.Nat.{ℕ, _+_, _-_, _≤_, _<_, min}
 use lib.ListN.{length, getD, set}
 use lib.Seq.{paste}

@@ -1,8 +1,8 @@
 -- `cases::show` is safe and ends. Assumes nothing.
 use mathlib.Core.Path.{sym}
+use borrow.Author.Needs.{needs}
 use lib.Seq.{length-take-le}
 use Rattle.text.proofs.PrintedLaws.{printed-fits}
-use borrow.Author.Needs.{needs}
 use Rattle.cases.proofs.show.Statement.{statement}
 use Rattle.cases.proofs.show.Tie as tie
 

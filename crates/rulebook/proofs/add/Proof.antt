@@ -1,10 +1,10 @@
 -- `rulebook::add` meets its contract. Assumes nothing.
 use mathlib.Core.Path.{sym, ap, _∙_}
 use native.Mathlib.Omega.{arith}
+use borrow.Author.Needs.{needs}
 use lib.ListN.{length-take}
 use lib.Seq.{length-take-le}
 use Rattle.rulebook.proofs.BlockLaws.{paste-front}
-use borrow.Author.Needs.{needs}
 use Rattle.rulebook.proofs.add.Statement.{statement}
 use Rattle.rulebook.proofs.add.Tie as tie
 

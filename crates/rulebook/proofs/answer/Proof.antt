@@ -1,10 +1,10 @@
 -- `rulebook::answer` meets its contract. That an answer fits its 64 bytes is `printed-fits`. Assumes nothing.
 use mathlib.Core.Path.{refl, sym}
 use native.Mathlib.Omega.{arith}
+use borrow.Author.Needs.{needs}
 use lib.ListN.{length-take}
 use lib.Seq.{length-take-le}
 use Rattle.text.proofs.PrintedLaws.{printed-fits}
-use borrow.Author.Needs.{needs}
 use Rattle.rulebook.proofs.answer.Statement.{statement}
 use Rattle.rulebook.proofs.answer.Tie as tie
 

@@ -1,7 +1,7 @@
 -- `rulebook::close` is safe and ends. Assumes nothing.
 use mathlib.Core.Path.{sym}
-use lib.Seq.{length-take-le}
 use borrow.Author.Needs.{needs}
+use lib.Seq.{length-take-le}
 use Rattle.rulebook.proofs.close.Statement.{statement}
 use Rattle.rulebook.proofs.close.Tie as tie
 

@@ -1,7 +1,7 @@
 -- `rulebook::finish` meets its contract. Assumes nothing.
 use mathlib.Core.Path.{sym}
-use lib.Seq.{length-take-le}
 use borrow.Author.Needs.{needs}
+use lib.Seq.{length-take-le}
 use Rattle.rulebook.proofs.finish.Statement.{statement}
 use Rattle.rulebook.proofs.finish.Tie as tie
 
