@@ -1,6 +1,8 @@
-/* Holds every call of a house to document 01 as this file reads it: a plain recursive lookup, and the edits by working every entry out anew.
-   All books of up to 3 kinds and 2 marks whose links have no cycle, and many random ones of 4 kinds and 2 marks: on each, every entry, every edit
-   with every argument, parties everywhere, and inspect and refresh on the book as it is and damaged. */
+/* Holds every call of a house to document 01 and request U6 as this file reads them: the kinds seen, those left of them and a plain recursive
+   lookup, and the edits by working every entry out anew.
+   All books of up to 3 kinds and 2 marks whose links have no cycle, and many random ones of 4 to 6 kinds and 2 marks: on each, every entry, every edit
+   with every argument, parties everywhere, and inspect and refresh on the book as it is and damaged, and as it was stored before that request. A few
+   named books have their answers and entries written out as well. */
 
 #include <stdio.h>
 #include <stdlib.h>
@@ -8,7 +10,7 @@
 
 #include "house.h"
 
-enum { KINDS = 4, MARKS = 2, FIVE = HOUSE_REFUSED + 5 };
+enum { KINDS = 6, MARKS = 2, FIVE = HOUSE_REFUSED + 5 };
 
 struct book {
     uint16_t n, m;
@@ -20,7 +22,7 @@ struct book {
 #define LENT(b)                                                                                                                                  \
     (b)->n, (b)->m, (b)->links, (size_t)(b)->n *(b)->n, (b)->rules, (size_t)(b)->n *(b)->m, (b)->entries, (size_t)(b)->n *(b)->m, (b)->tally, 1
 
-/* ---- document 01, read plainly */
+/* ---- document 01 and request U6, read plainly */
 
 static int linked(const struct book *b, unsigned child, unsigned parent) { return b->links[child * b->n + parent] == 1; }
 
@@ -33,25 +35,51 @@ static int above_within(const struct book *b, unsigned c, unsigned p, unsigned l
 }
 static int above(const struct book *b, unsigned c, unsigned p) { return above_within(b, c, p, b->n); }
 
-static unsigned lookup(const struct book *b, unsigned c, unsigned mark) {
-    unsigned found = 0;
-    if (b->rules[c * b->m + mark] != 0) return c + 1;
-    for (unsigned p = 0; p < b->n; p++) {
-        if (!linked(b, c, p)) continue;
-        unsigned one = lookup(b, p, mark);
-        if (one == 0) continue;
-        if (found != 0 && found != one) return 257 + c;
-        found = one;
-    }
-    return found;
-}
-
 /* Whether the rule of kind o is seen from c. */
 static int seen(const struct book *b, unsigned c, unsigned o, unsigned mark) {
     if (b->rules[c * b->m + mark] != 0) return c == o;
     for (unsigned p = 0; p < b->n; p++)
         if (linked(b, c, p) && seen(b, p, o, mark)) return 1;
     return 0;
+}
+
+/* Whether it is left there: seen, and above no other that is. */
+static int left(const struct book *b, unsigned c, unsigned o, unsigned mark) {
+    if (!seen(b, c, o, mark)) return 0;
+    for (unsigned q = 0; q < b->n; q++)
+        if (seen(b, c, q, mark) && above(b, q, o)) return 0;
+    return 1;
+}
+
+static unsigned lookup(const struct book *b, unsigned c, unsigned mark) {
+    unsigned kinds = 0, rule = 0, shared = 0;
+    for (unsigned o = 0; o < b->n; o++)
+        if (left(b, c, o, mark)) {
+            kinds++;
+            rule = o + 1;
+        }
+    if (kinds < 2) return rule;
+    for (unsigned p = 0; p < b->n; p++) {
+        if (!linked(b, c, p)) continue;
+        unsigned one = lookup(b, p, mark);
+        if (one == 0) continue;
+        if (one < 257 || (shared != 0 && shared != one)) return 257 + c;
+        shared = one;
+    }
+    return shared;
+}
+
+/* The lookup of document 01 by itself, as it was before that request. */
+static unsigned old_lookup(const struct book *b, unsigned c, unsigned mark) {
+    unsigned shared = 0;
+    if (b->rules[c * b->m + mark] != 0) return c + 1;
+    for (unsigned p = 0; p < b->n; p++) {
+        unsigned one = linked(b, c, p) ? old_lookup(b, p, mark) : 0;
+        if (one == 0) continue;
+        if (shared != 0 && shared != one) return 257 + c;
+        shared = one;
+    }
+    return shared;
 }
 
 static uint32_t work_out(struct book *b) {
@@ -115,7 +143,7 @@ static uint32_t refresh(struct book *b) {
 
 /* ---- compared */
 
-static unsigned long books, calls_made, refusals[16], edits_done;
+static unsigned long books, old_books, calls_made, refusals[16], edits_done;
 
 static void fail(const char *what, const struct book *b) {
     fprintf(stderr, "%s differs on a book of %u kinds and %u marks\n", what, b->n, b->m);
@@ -173,7 +201,7 @@ static void try_parties(const struct book *b) {
             } else {
                 unsigned one = answer / 256, other = answer % 256;
                 edits_done++;
-                if (one == other || one >= b->n || other >= b->n || !seen(b, kind, one, mark) || !seen(b, kind, other, mark)) fail("parties", b);
+                if (one == other || one >= b->n || other >= b->n || !left(b, kind, one, mark) || !left(b, kind, other, mark)) fail("parties", b);
             }
         }
 }
@@ -187,12 +215,37 @@ static void try_whole(const struct book *b) {
     same("refresh", b, &ours, &theirs, mine, house_refresh(LENT(&theirs)));
 }
 
+/* The book as it was stored when entries were worked out by the old lookup. If it differs: inspect names the lowest place, no edit gets past refusal 5,
+   and refresh brings the book over. */
+static void try_old(const struct book *b) {
+    struct book old = *b;
+    uint32_t count = 0, lowest = 0;
+    for (unsigned i = (unsigned)b->n * b->m; i-- > 0;) {
+        old.entries[i] = (uint16_t)old_lookup(b, i / b->m, i % b->m);
+        if (old.entries[i] == b->entries[i]) continue;
+        count++;
+        lowest = i;
+    }
+    if (count == 0) return;
+    old_books++;
+    try_whole(&old);
+    if (house_inspect(LENT(&old)) != HOUSE_WRONG_ENTRY + lowest) fail("inspect of an old book", &old);
+    if (house_parties(LENT(&old), 0, 0) != FIVE) fail("parties of an old book", &old);
+    unsigned long past_five = edits_done + refusals[6] + refusals[7] + refusals[8] + refusals[9];
+    try_edits(&old);
+    if (edits_done + refusals[6] + refusals[7] + refusals[8] + refusals[9] != past_five) fail("edit of an old book", &old);
+    if (house_refresh(LENT(&old)) != count || memcmp(&old, b, sizeof old) != 0) fail("refresh of an old book", b);
+    if (house_inspect(LENT(&old)) != HOUSE_SOUND) fail("inspect of a book brought over", b);
+    if (house_add_rule(LENT(&old), 0, 0, 20) >= HOUSE_REFUSED) fail("edit of a book brought over", b);
+}
+
 static void try_book(const struct book *b) {
     struct book damaged = *b;
     books++;
     try_whole(b);
     try_edits(b);
     try_parties(b);
+    try_old(b);
     /* one entry wrong, then one link byte */
     damaged.entries[books % ((unsigned)b->n * b->m)] ^= (uint16_t)(1 + books % 3);
     try_whole(&damaged);
@@ -217,6 +270,74 @@ static int make_book(struct book *b, uint16_t n, uint16_t m, unsigned long links
     return 1;
 }
 
+/* ---- named books: a link is a child and its parent, a rule its kind and handling, for mark 0 */
+
+struct pair {
+    uint16_t one, other;
+};
+
+#define MANY(list) (sizeof(list) / sizeof *(list))
+
+static struct book named_book(uint16_t n, uint16_t m, const struct pair *links, size_t many_links, const struct pair *rules, size_t many_rules) {
+    struct book b = {n, m, {0}, {0}, {0}, {0}};
+    for (size_t i = 0; i < many_links; i++) b.links[links[i].one * n + links[i].other] = 1;
+    for (size_t i = 0; i < many_rules; i++) b.rules[rules[i].one * m] = rules[i].other;
+    work_out(&b);
+    return b;
+}
+
+static void hold_entries(const char *what, const struct book *b, const uint16_t *entries) {
+    if (memcmp(b->entries, entries, sizeof *entries * b->n * b->m) != 0) fail(what, b);
+}
+
+/* Kind 1 is put below kind 0 and keeps its own rule; for kind 2, below both, it now hides that of kind 0. */
+static void try_link_past_own_rule(void) {
+    static const struct pair links[] = {{2, 0}, {2, 1}}, rules[] = {{0, 10}, {1, 20}};
+    static const uint16_t before[] = {1, 2, 259}, after[] = {1, 2, 2};
+    struct book b = named_book(3, 1, links, MANY(links), rules, MANY(rules));
+    hold_entries("a disputed entry", &b, before);
+    try_book(&b);
+    if (house_add_link(LENT(&b), 1, 0) != 1) fail("a link past an own rule", &b);
+    hold_entries("a link past an own rule", &b, after);
+    try_book(&b);
+}
+
+/* A rule at kind 2 leaves kind 3 disputed as it was, and yet kind 5 below that one is newly disputed: kind 4 hid the others, but not this. */
+static void try_rule_past_same_entry(void) {
+    static const struct pair links[] = {{3, 0}, {3, 1}, {3, 2}, {4, 0}, {4, 1}, {5, 3}, {5, 4}}, rules[] = {{0, 10}, {1, 20}, {4, 20}};
+    static const uint16_t before[] = {1, 2, 0, 260, 5, 5}, after[] = {1, 2, 3, 260, 5, 262};
+    struct book b = named_book(6, 1, links, MANY(links), rules, MANY(rules));
+    hold_entries("a hidden pair", &b, before);
+    try_book(&b);
+    if (house_add_rule(LENT(&b), 2, 0, 20) != 2) fail("a rule past the same entry", &b);
+    hold_entries("a rule past the same entry", &b, after);
+    try_book(&b);
+}
+
+/* The session's book, stored when kind 3 was still disputed. */
+static void try_stored_session(void) {
+    static const struct pair links[] = {{1, 0}, {2, 0}, {3, 1}, {3, 2}}, rules[] = {{0, 10}, {1, 20}};
+    static const uint16_t stored[] = {1, 0, 2, 0, 1, 0, 260, 0}, now[] = {1, 0, 2, 0, 1, 0, 2, 0}, after[] = {1, 0, 2, 0, 3, 0, 260, 0};
+    struct book b = named_book(4, 2, links, MANY(links), rules, MANY(rules)), lent;
+    hold_entries("the session", &b, now);
+    try_book(&b);
+    for (unsigned i = 0; i < MANY(stored); i++) b.entries[i] = (uint16_t)old_lookup(&b, i / b.m, i % b.m);
+    hold_entries("the stored session", &b, stored);
+    lent = b;
+    if (house_inspect(LENT(&lent)) != HOUSE_WRONG_ENTRY + 6) fail("inspect of the stored session", &b);
+    if (house_add_rule(LENT(&lent), 2, 0, 20) != FIVE || house_take_rule(LENT(&lent), 2, 0) != FIVE) fail("rules of the stored session", &b);
+    if (house_add_link(LENT(&lent), 3, 1) != FIVE || house_add_link(LENT(&lent), 0, 3) != FIVE) fail("links of the stored session", &b);
+    if (house_take_link(LENT(&lent), 3, 2) != FIVE || house_take_link(LENT(&lent), 3, 0) != FIVE) fail("links of the stored session", &b);
+    if (house_add_rule(LENT(&lent), 4, 2, 0) != HOUSE_REFUSED + 2 || house_add_rule(LENT(&lent), 2, 2, 0) != HOUSE_REFUSED + 3 ||
+        house_add_rule(LENT(&lent), 2, 0, 0) != HOUSE_REFUSED + 4)
+        fail("first refusals of the stored session", &b);
+    if (memcmp(&lent, &b, sizeof lent) != 0) fail("tables of the stored session", &b);
+    if (house_refresh(LENT(&lent)) != 1) fail("refresh of the stored session", &b);
+    hold_entries("refresh of the stored session", &lent, now);
+    if (house_inspect(LENT(&lent)) != HOUSE_SOUND || house_add_rule(LENT(&lent), 2, 0, 20) != 2) fail("the session brought over", &lent);
+    hold_entries("the session brought over", &lent, after);
+}
+
 static uint64_t state = 88172645463325252u;
 static unsigned long chance(void) {
     state ^= state << 13;
@@ -233,14 +354,22 @@ int main(void) {
                 for (unsigned long rules = 0; rules < 1ul << n * m; rules++)
                     if (make_book(&b, n, m, links, rules)) try_book(&b);
     unsigned long all = books;
-    while (books < all + 20000)
-        if (make_book(&b, 4, 2, chance() & chance(), chance())) try_book(&b);
+    while (books < all + 15000)
+        if (make_book(&b, (uint16_t)(books % 10 == 9 ? 6 : 4 + books % 2), 2, chance() & chance(), chance())) try_book(&b);
+    try_link_past_own_rule();
+    try_rule_past_same_entry();
+    try_stored_session();
     for (size_t r = 2; r <= 9; r++)
         if (refusals[r] < 1000) {
             fprintf(stderr, "refusal %zu came up only %lu times\n", r, refusals[r]);
             return EXIT_FAILURE;
         }
     if (refusals[11] < 1000 || edits_done < 100000) return EXIT_FAILURE;
-    printf("%lu books, %lu of them all those of up to 3 kinds and 2 marks; %lu calls\n", books, all, calls_made);
+    if (old_books < 1000) {
+        fprintf(stderr, "only %lu books have other entries by the old lookup\n", old_books);
+        return EXIT_FAILURE;
+    }
+    printf("%lu books, %lu of them all those of up to 3 kinds and 2 marks, %lu not sound as stored before; %lu calls\n", books, all, old_books,
+           calls_made);
     return EXIT_SUCCESS;
 }

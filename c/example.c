@@ -16,13 +16,12 @@ struct book {
 
          0      has rule 10 for mark 0
         / \
-       1   2    1 has rule 20 for mark 0
+       1   2    both have rule 20 for mark 0
         \ /
          3
 
-   The lookups for mark 0: kinds 0 and 1 have their own rules. Kind 2 gets the rule of kind 0. Kind 3 gets the rule of
-   kind 1 from one parent and that of kind 0 from the other; they differ, so there is a dispute at kind 3. Nobody has a
-   rule for mark 1. */
+   The lookups for mark 0: kinds 0, 1 and 2 have their own rules. Kind 3 sees those of kinds 1 and 2, and neither is above the
+   other, so there is a dispute at kind 3 though both say 20; both hide the rule of kind 0. Nobody has a rule for mark 1. */
 static const uint8_t links[4 * 4] = {
     /* parent 0, 1, 2, 3 */
     0, 0, 0, 0, /* of kind 0 */
@@ -34,16 +33,16 @@ static const uint8_t rules[2 * 4 * 2] = {
     /* mark 0, mark 1; of each number the lowest byte first */
     10, 0, 0, 0, /* kind 0: 10, no rule */
     20, 0, 0, 0, /* kind 1: 20, no rule */
-    0,  0, 0, 0, /* kind 2: no rule, no rule */
+    20, 0, 0, 0, /* kind 2: 20, no rule */
     0,  0, 0, 0, /* kind 3: no rule, no rule */
 };
 static const uint8_t entries[2 * 4 * 2] = {
     1, 0, 0, 0, /* kind 0: 0 + 1, the rule of kind 0; none */
     2, 0, 0, 0, /* kind 1: 1 + 1, the rule of kind 1; none */
-    1, 0, 0, 0, /* kind 2: 0 + 1, the rule of kind 0; none */
+    3, 0, 0, 0, /* kind 2: 2 + 1, the rule of kind 2; none */
     4, 1, 0, 0, /* kind 3: 257 + 3 = 260 = 4 + 256 * 1, a dispute at kind 3; none */
 };
-static const uint8_t tally[4] = {6, 0, 0, 0}; /* six edits were accepted: four links and two rules */
+static const uint8_t tally[4] = {7, 0, 0, 0}; /* seven edits were accepted: four links and three rules */
 
 static const struct book session = {
     4, 2, links, rules, entries, tally, sizeof links, sizeof rules, sizeof entries, sizeof tally,

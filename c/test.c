@@ -450,28 +450,51 @@ static unsigned size_up_to(unsigned most) {
     return way == 0 ? 1 : way == 1 ? most : 1 + chance(most);
 }
 
+/* Who is above whom, kept up to date while kinds get their parents: above[c][p] is 1 where p is above c. */
+static uint8_t above[128][128];
+
+/* What the rule kinds above a kind decide for a mark: each one that is above another is dropped. */
+static unsigned decided(const struct book *book, unsigned kind, unsigned mark) {
+    unsigned rule = 0;
+    for (unsigned o = 0; o < book->n; o++) {
+        if (above[kind][o] == 0 || number_at(&book->rules, o * book->m + mark) == 0) {
+            continue;
+        }
+        bool hidden = false;
+        for (unsigned q = 0; q < book->n; q++) {
+            hidden = hidden || (above[kind][q] == 1 && above[q][o] == 1 && number_at(&book->rules, q * book->m + mark) != 0);
+        }
+        if (!hidden && rule != 0) {
+            return 257 + kind;
+        }
+        rule = hidden ? rule : o + 1;
+    }
+    return rule;
+}
+
 /* The lookup's entry at a kind and a mark, once its parents' entries are right. */
 static unsigned looked_up(const struct book *book, unsigned kind, unsigned mark) {
     if (number_at(&book->rules, kind * book->m + mark) != 0) {
         return kind + 1;
     }
-    unsigned left = 0;
+    unsigned shared = 0;
     for (unsigned parent = 0; parent < book->n; parent++) {
         if (book->links.bytes[kind * book->n + parent] == 1) {
             unsigned entry = number_at(&book->entries, parent * book->m + mark);
-            if (left != 0 && entry != 0 && entry != left) {
-                return 257 + kind;
+            if (shared != 0 && entry != 0 && entry != shared) {
+                return decided(book, kind, mark);
             }
-            left = left == 0 ? entry : left;
+            shared = shared == 0 ? entry : shared;
         }
     }
-    return left;
+    return shared;
 }
 
 /* A sound book: kinds come in some order, each under at most three before it. */
 static struct book sound_book(void) {
     struct book book = make_book(size_up_to(128), size_up_to(64));
     unsigned order[128], ruled = 2 + chance(12);
+    memset(above, 0, sizeof above);
     for (unsigned i = 0; i < book.n; i++) {
         unsigned j = chance(i + 1);
         order[i] = order[j];
@@ -479,7 +502,12 @@ static struct book sound_book(void) {
     }
     for (unsigned i = 0; i < book.n; i++) {
         for (unsigned parents = i == 0 ? 0 : chance(4); parents > 0; parents--) {
-            book.links.bytes[order[i] * book.n + order[chance(i)]] = 1;
+            unsigned parent = order[chance(i)];
+            book.links.bytes[order[i] * book.n + parent] = 1;
+            above[order[i]][parent] = 1;
+            for (unsigned p = 0; p < book.n; p++) {
+                above[order[i]][p] |= above[parent][p];
+            }
         }
         for (unsigned mark = 0; mark < book.m; mark++) {
             size_t place = order[i] * book.m + mark;

@@ -1,6 +1,8 @@
-/* Times the four edits of the static library against the twin in C, on sparse books of three sizes, in one run. Both do the same edits on books
-   of their own, batch by batch in turns; answers and tables are compared as they go. */
+/* Times the four edits of the static library against the twin in C and against the base, the library as it was before request U6, in one run: on
+   books of three sizes where parents differ at few, some and many places. All do the same edits on books of their own, batch by batch in turns; the
+   answers and tables of the library and the twin are compared as they go, and the links and rules of the base. */
 #define _POSIX_C_SOURCE 199309L /* for clock_gettime */
+#include "base.h"
 #include "house.h"
 #include "twin.h"
 #include <stdio.h>
@@ -8,7 +10,7 @@
 #include <string.h>
 #include <time.h>
 
-enum { PLACES = 48, ROUNDS = 60, FRESH = 10, REPEATS = 9 };
+enum { PLACES = 48, ROUNDS = 60, REPEATS = 9, LIBRARY = 0, TWIN = 1, BASE = 2, SIDES = 3 };
 
 static uint64_t state = 88172645463325252ull;
 static uint32_t random_below(uint32_t k) {
@@ -39,6 +41,13 @@ static struct book new_book(uint16_t n, uint16_t m) {
     return b;
 }
 
+static void free_book(const struct book *b) {
+    free(b->links);
+    free(b->rules);
+    free(b->entries);
+    free(b->tally);
+}
+
 static void copy(const struct book *to, const struct book *from) {
     memcpy(to->links, from->links, from->links_len);
     memcpy(to->rules, from->rules, 2 * from->rules_len);
@@ -53,10 +62,12 @@ static void clear(const struct book *b) {
     b->tally[0] = 0;
 }
 
-static int same(const struct book *a, const struct book *b) {
-    return !memcmp(a->links, b->links, a->links_len) && !memcmp(a->rules, b->rules, 2 * a->rules_len) &&
-           !memcmp(a->entries, b->entries, 2 * a->entries_len) && a->tally[0] == b->tally[0];
+/* The same edits were accepted. */
+static int edited_alike(const struct book *a, const struct book *b) {
+    return !memcmp(a->links, b->links, a->links_len) && !memcmp(a->rules, b->rules, 2 * a->rules_len) && a->tally[0] == b->tally[0];
 }
+
+static int same(const struct book *a, const struct book *b) { return edited_alike(a, b) && !memcmp(a->entries, b->entries, 2 * a->entries_len); }
 
 /* One edit: a rule at (x, y) or a link from x to y, added with a value or taken. */
 struct edit {
@@ -73,8 +84,11 @@ static uint32_t twin_1(const struct book *b, struct edit e) { return twin_add_ru
 static uint32_t twin_2(const struct book *b, struct edit e) { return twin_take_rule(b, e.x, e.y); }
 static uint32_t twin_3(const struct book *b, struct edit e) { return twin_add_link(b, e.x, e.y); }
 static uint32_t twin_4(const struct book *b, struct edit e) { return twin_take_link(b, e.x, e.y); }
-static call *const house[4] = {house_1, house_2, house_3, house_4};
-static call *const twin[4] = {twin_1, twin_2, twin_3, twin_4};
+static uint32_t base_1(const struct book *b, struct edit e) { return base_add_rule(TABLES(b), e.x, e.y, e.value); }
+static uint32_t base_2(const struct book *b, struct edit e) { return base_take_rule(TABLES(b), e.x, e.y); }
+static uint32_t base_3(const struct book *b, struct edit e) { return base_add_link(TABLES(b), e.x, e.y); }
+static uint32_t base_4(const struct book *b, struct edit e) { return base_take_link(TABLES(b), e.x, e.y); }
+static call *const calls[SIDES][4] = {{house_1, house_2, house_3, house_4}, {twin_1, twin_2, twin_3, twin_4}, {base_1, base_2, base_3, base_4}};
 static const char *const name[4] = {"add rule", "take rule", "add link", "take link"};
 
 static int compare(const void *a, const void *b) {
@@ -92,12 +106,46 @@ static double batch(call *f, const struct book *b, const struct edit *edits, uin
     return (now() - start) / PLACES;
 }
 
-/* A sparse book: a kind has one to three parents of lower number; one place in sixteen has a rule. */
-static void grow(const struct book *b) {
-    for (uint16_t c = 1; c < b->n; c++)
-        for (uint32_t k = 1 + random_below(3); k > 0; k--) twin_add_link(b, c, (uint16_t)random_below(c));
-    for (uint32_t k = (uint32_t)b->n * b->m / 16; k > 0; k--)
-        twin_add_rule(b, (uint16_t)random_below(b->n), (uint16_t)random_below(b->m), (uint16_t)(1 + random_below(65535)));
+/* What the books are like: a kind has one to `parents` parents of lower number (some may be drawn twice), one place in `places` has a rule. */
+struct shape {
+    uint16_t n, m;
+    const char *much;
+    uint32_t parents, places;
+};
+
+static void fill(const struct book *b, const struct shape *s) {
+    clear(b);
+    for (uint32_t c = 1; c < b->n; c++)
+        for (uint32_t k = 1 + random_below(s->parents); k > 0; k--) b->links[c * b->n + random_below(c)] = 1;
+    for (size_t i = 0; i < b->rules_len; i++)
+        if (random_below(s->places) == 0) b->rules[i] = (uint16_t)(1 + random_below(65535));
+}
+
+/* Whether kind c has no own rule for the mark, and parents with different entries that are not none. */
+static int parents_differ(const struct book *b, size_t c, size_t mark) {
+    uint16_t one = 0;
+    if (b->rules[c * b->m + mark] != 0) return 0;
+    for (size_t p = 0; p < b->n; p++) {
+        uint16_t entry = b->links[c * b->n + p] ? b->entries[p * b->m + mark] : 0;
+        if (entry != 0 && one != 0 && entry != one) return 1;
+        if (entry != 0) one = entry;
+    }
+    return 0;
+}
+
+static double share(const struct book *b) {
+    size_t differ = 0;
+    for (size_t i = 0; i < b->entries_len; i++) differ += (size_t)parents_differ(b, i / b->m, i % b->m);
+    return 100.0 * (double)differ / (double)b->entries_len;
+}
+
+/* A new book for all three, the entries of the base by its own lookup. The share of its places where parents differ. */
+static double renew(const struct book *books, const struct shape *s) {
+    fill(&books[LIBRARY], s);
+    copy(&books[BASE], &books[LIBRARY]);
+    if (house_refresh(TABLES(&books[LIBRARY])) >= HOUSE_REFUSED || base_refresh(TABLES(&books[BASE])) >= BASE_REFUSED) abort();
+    copy(&books[TWIN], &books[LIBRARY]);
+    return share(&books[LIBRARY]);
 }
 
 /* Rules at any places and links from any kind to a lower one, so that no link closes a cycle. */
@@ -109,32 +157,39 @@ static void choose(uint16_t n, uint16_t m, struct edit *rules, struct edit *link
     }
 }
 
-static int run(uint16_t n, uint16_t m) {
-    struct book a = new_book(n, m), b = new_book(n, m);
+static int run(const struct shape *s) {
+    struct book books[SIDES];
     struct edit rules[PLACES], links[PLACES];
-    static double times[2][4][REPEATS];
-    uint64_t sum[2] = {0, 0};
+    static double times[SIDES][4][REPEATS];
+    double differ = 0;
+    uint64_t sum[SIDES] = {0};
+    for (int side = 0; side < SIDES; side++) books[side] = new_book(s->n, s->m);
     memset(times, 0, sizeof times);
     for (int r = 0; r < REPEATS; r++)
         for (int round = 0; round < ROUNDS; round++) {
-            if (round % FRESH == 0) {
-                clear(&b);
-                grow(&b);
-                copy(&a, &b);
-            }
-            choose(n, m, rules, links);
+            differ += renew(books, s) / (REPEATS * ROUNDS);
+            choose(s->n, s->m, rules, links);
             for (int k = 0; k < 4; k++) {
-                const struct edit *edits = k < 2 ? rules : links;
-                times[0][k][r] += batch(house[k], &a, edits, &sum[0]) / ROUNDS;
-                times[1][k][r] += batch(twin[k], &b, edits, &sum[1]) / ROUNDS;
-                if (sum[0] != sum[1] || !same(&a, &b)) return printf("%u x %u: %s differs\n", n, m, name[k]), 1;
+                for (int side = 0; side < SIDES; side++)
+                    times[side][k][r] += batch(calls[side][k], &books[side], k < 2 ? rules : links, &sum[side]) / ROUNDS;
+                if (sum[LIBRARY] != sum[TWIN] || !same(&books[LIBRARY], &books[TWIN]) || !edited_alike(&books[LIBRARY], &books[BASE]))
+                    return printf("%u x %u: %s differs\n", s->n, s->m, name[k]), 1;
             }
         }
     for (int k = 0; k < 4; k++) {
-        double x = median(times[0][k], REPEATS), y = median(times[1][k], REPEATS);
-        printf("%3u x %2u  %-9s  %8.2f us  C %8.2f us  ratio %.2f\n", n, m, name[k], x, y, x / y);
+        double x = median(times[LIBRARY][k], REPEATS), y = median(times[TWIN][k], REPEATS), z = median(times[BASE][k], REPEATS);
+        printf("%3u x %2u  %-4s (%2.0f %%)  %-9s  %6.2f us  C %6.2f us  ratio %.2f  base %6.2f us  ratio %.2f\n", s->n, s->m, s->much, differ, name[k],
+               x, y, x / y, z, x / z);
     }
+    for (int side = 0; side < SIDES; side++) free_book(&books[side]);
     return 0;
 }
 
-int main(void) { return run(24, 16) || run(64, 32) || run(128, 64); }
+int main(void) {
+    static const struct shape shapes[] = {{24, 16, "few", 2, 12},  {24, 16, "some", 3, 4},   {24, 16, "many", 14, 3},
+                                          {64, 32, "few", 2, 20},  {64, 32, "some", 3, 8},   {64, 32, "many", 8, 6},
+                                          {128, 64, "few", 2, 26}, {128, 64, "some", 3, 13}, {128, 64, "many", 6, 8}};
+    for (size_t i = 0; i < sizeof shapes / sizeof *shapes; i++)
+        if (run(&shapes[i])) return EXIT_FAILURE;
+    return EXIT_SUCCESS;
+}

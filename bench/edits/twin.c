@@ -1,166 +1,296 @@
-/* The four edits by hand in plain C, as an engineer would write them: links read into two words a kind, Warshall's closure on the words, entries
-   checked and worked out row by row, and after an edit only the kinds that it reaches. */
+/* The four edits by hand, as quick as we could make them in plain C99: links read eight bytes at a time, the kinds put in order by one climb, entries
+   worked out a row of marks at a time, where parents differ by the rule kinds left, and after an edit only for the kinds that it reaches. It counts on
+   a machine that stores the lowest byte of a number first. */
 #include "twin.h"
 #include <string.h>
 
 enum { MOST = 128, MARKS = 64, REFUSED = 65536 };
 
-struct rows {
-    uint64_t word[MOST][2];
+/* A set of kinds, or of places in the order of the kinds. */
+struct set {
+    uint64_t low, high;
 };
 
-static int has(const struct rows *r, size_t c, size_t p) { return r->word[c][p / 64] >> (p % 64) & 1; }
-static void put(struct rows *r, size_t c, size_t p) { r->word[c][p / 64] |= (uint64_t)1 << (p % 64); }
-static void drop(struct rows *r, size_t c, size_t p) { r->word[c][p / 64] &= ~((uint64_t)1 << (p % 64)); }
+/* What the soundness test reads from a book. In the order each kind stands before those above it. */
+struct view {
+    struct set parents[MOST]; /* of each kind */
+    struct set reach[MOST];   /* of each kind: its own place and those of the kinds above it */
+    struct set ruled[MARKS];  /* of each mark: the places of the kinds with a rule */
+    uint8_t order[MOST], place[MOST];
+    size_t taken; /* the places from this one on */
+};
+
+/* Instead of a place: the climb has not met the kind, or has not come back from those above it. */
+enum { UNMET = MOST, ENTERED };
+
+static inline struct set only(size_t i) { return (struct set){i < 64 ? (uint64_t)1 << i : 0, i < 64 ? 0 : (uint64_t)1 << (i - 64)}; }
+static inline struct set both(struct set s, struct set t) { return (struct set){s.low & t.low, s.high & t.high}; }
+static inline struct set either(struct set s, struct set t) { return (struct set){s.low | t.low, s.high | t.high}; }
+static inline struct set without(struct set s, struct set t) { return (struct set){s.low & ~t.low, s.high & ~t.high}; }
+static inline int empty(struct set s) { return (s.low | s.high) == 0; }
+static inline int has(struct set s, size_t i) { return !empty(both(s, only(i))); }
+
+static inline size_t lowest(uint64_t word) { return (unsigned)__builtin_ctzll(word); }
+static inline size_t first(struct set s) { return s.low ? lowest(s.low) : 64 + lowest(s.high); }
+static inline void drop_first(struct set *s) {
+    if (s->low) s->low &= s->low - 1;
+    else s->high &= s->high - 1;
+}
 
 static int shaped(const struct book *b) {
     size_t places = (size_t)b->n * b->m;
-    return b->n >= 1 && b->n <= MOST && b->m >= 1 && b->m <= MARKS && b->links_len == (size_t)b->n * b->n &&
-           b->rules_len == places && b->entries_len == places && b->tally_len == 1;
+    return b->n >= 1 && b->n <= MOST && b->m >= 1 && b->m <= MARKS && b->links_len == (size_t)b->n * b->n && b->rules_len == places &&
+           b->entries_len == places && b->tally_len == 1;
 }
 
-static int load(const struct book *b, struct rows *r) {
-    size_t n = b->n;
-    int good = 1;
-    memset(r, 0, sizeof *r);
-    for (size_t c = 0; c < n; c++)
-        for (size_t p = 0; p < n; p++) {
-            uint8_t x = b->links[c * n + p];
-            good &= x <= 1;
-            r->word[c][p / 64] |= (uint64_t)(x == 1) << (p % 64);
-        }
-    return good;
-}
+/* Eight bytes, each 0 or 1, as eight bits: byte i comes to bit 56 + i of the product. */
+static inline uint64_t eight_bits(uint64_t bytes) { return bytes * 0x0102040810204080u >> 56; }
 
-static void close_rows(struct rows *r, size_t n) {
-    for (size_t k = 0; k < n; k++)
-        for (size_t c = 0; c < n; c++)
-            if (has(r, c, k)) {
-                r->word[c][0] |= r->word[k][0];
-                r->word[c][1] |= r->word[k][1];
-            }
-}
-
-static void work_out(const struct book *b, const struct rows *r, size_t c, size_t low, size_t high, uint16_t *out) {
-    size_t n = b->n, m = b->m;
-    for (size_t j = low; j < high; j++) out[j] = 0;
-    for (size_t p = 0; p < n; p++)
-        if (has(r, c, p))
-            for (size_t j = low; j < high; j++) {
-                uint16_t e = b->entries[p * m + j], a = out[j];
-                out[j] = e == 0 ? a : a == 0 || a == e ? e : (uint16_t)(257 + c);
-            }
-    for (size_t j = low; j < high; j++)
-        if (b->rules[c * m + j] != 0) out[j] = (uint16_t)(c + 1);
-}
-
-static int sound(const struct book *b, struct rows *rows, struct rows *closed) {
-    size_t n = b->n, m = b->m;
-    int good = load(b, rows);
-    *closed = *rows;
-    close_rows(closed, n);
-    for (size_t c = 0; c < n; c++) good &= !has(closed, c, c);
-    for (size_t c = 0; c < n; c++) {
-        uint16_t out[MARKS];
-        work_out(b, rows, c, 0, m, out);
-        good &= memcmp(out, b->entries + c * m, m * sizeof *out) == 0;
+/* Up to 64 bytes, each 0 or 1, as bits. All that they hold is put into `held` too, for the test that they are. */
+static inline uint64_t bits_of(const uint8_t *bytes, size_t many, uint64_t *held) {
+    uint64_t bits = 0, eight = 0;
+    size_t i = 0;
+    for (; i + 8 <= many; i += 8) {
+        memcpy(&eight, bytes + i, 8);
+        *held |= eight;
+        bits |= eight_bits(eight) << i;
     }
-    return good;
+    if (i < many) {
+        eight = 0;
+        memcpy(&eight, bytes + i, many - i);
+        *held |= eight;
+        bits |= eight_bits(eight) << i;
+    }
+    return bits;
 }
 
-static void visit(const struct book *b, const struct rows *r, const uint8_t *stop, size_t k, uint8_t *visited) {
-    visited[k] = 1;
-    for (size_t c = 0; c < b->n; c++)
-        if (has(r, c, k) && !visited[c] && !stop[c]) visit(b, r, stop, c, visited);
+/* Whether every link byte is 0 or 1. The compiler unrolls where a whole 64 is asked for. */
+static int read_links(const struct book *b, struct view *v) {
+    size_t n = b->n;
+    uint64_t held = 0;
+    for (size_t c = 0; c < n; c++) {
+        const uint8_t *row = b->links + c * n;
+        v->parents[c].low = n < 64 ? bits_of(row, n, &held) : bits_of(row, 64, &held);
+        v->parents[c].high = n <= 64 ? 0 : n < MOST ? bits_of(row + 64, n - 64, &held) : bits_of(row + 64, 64, &held);
+    }
+    return (held & ~(uint64_t)0x0101010101010101u) == 0;
 }
 
-static size_t rank(const struct rows *closed, size_t n, size_t c) {
-    size_t above = 0;
-    for (size_t p = 0; p < n; p++) above += (size_t)has(closed, c, p);
-    return above;
+/* Gives kind c a place, the last that is free, once all above it have theirs. Whether no cycle was met. */
+static int climb(struct view *v, size_t c) {
+    struct set reach = {0, 0};
+    v->place[c] = ENTERED;
+    for (struct set up = v->parents[c]; !empty(up); drop_first(&up)) {
+        size_t p = first(up);
+        if (v->place[p] == ENTERED || (v->place[p] == UNMET && !climb(v, p))) return 0;
+        reach = either(reach, v->reach[p]);
+    }
+    size_t place = --v->taken;
+    v->place[c] = (uint8_t)place;
+    v->order[place] = (uint8_t)c;
+    v->reach[c] = either(reach, only(place));
+    return 1;
 }
 
-/* The visited kinds in the order of their ranks: an entry only after those of all the kind's parents. */
-static uint32_t settle(const struct book *b, const struct rows *rows, const struct rows *closed, const uint8_t *visited, size_t low, size_t high) {
-    size_t n = b->n, m = b->m, first[MOST + 1] = {0}, order[MOST], of[MOST], many = 0;
+/* Whether no kind is above itself; if so, they are in order. */
+static int arrange(struct view *v, size_t n) {
+    v->taken = n;
+    memset(v->place, UNMET, n);
     for (size_t c = 0; c < n; c++)
-        if (visited[c]) first[(of[c] = rank(closed, n, c)) + 1]++, many++;
-    for (size_t r = 0; r < n; r++) first[r + 1] += first[r];
-    for (size_t c = 0; c < n; c++)
-        if (visited[c]) order[first[of[c]]++] = c;
-    uint32_t count = 0;
-    for (size_t i = 0; i < many; i++) {
-        size_t c = order[i];
-        uint16_t out[MARKS];
-        work_out(b, rows, c, low, high, out);
-        for (size_t j = low; j < high; j++) {
-            count += b->entries[c * m + j] != out[j];
-            b->entries[c * m + j] = out[j];
+        if (v->place[c] == UNMET && !climb(v, c)) return 0;
+    return 1;
+}
+
+/* The rules of the kinds at eight places give one byte of each mark's set, many marks at once. */
+static void read_rules(const struct book *b, struct view *v) {
+    size_t n = b->n, m = b->m;
+    uint8_t bytes[MARKS][sizeof(struct set)];
+    memset(bytes, 0, m * sizeof *bytes);
+    for (size_t i = 0; i < n; i += 8) {
+        uint8_t eight[MARKS] = {0};
+        for (size_t k = i; k < n && k < i + 8; k++) {
+            const uint16_t *rules = b->rules + v->order[k] * m;
+            uint8_t bit = (uint8_t)(1 << (k - i));
+            for (size_t j = 0; j < m; j++) eight[j] |= rules[j] ? bit : 0;
         }
+        for (size_t j = 0; j < m; j++) bytes[j][i / 8] = eight[j];
+    }
+    memcpy(v->ruled, bytes, m * sizeof *bytes);
+}
+
+/* The entry of kind c for mark j by the rule kinds at or above it. The first of them in the order is left, for it is above none of the others; it is
+   left alone if all the others are above it. Whether they are is as good as chance, so the answer is chosen without a branch. */
+static inline uint16_t decide(const struct view *v, size_t c, size_t j) {
+    struct set kinds = both(v->reach[c], v->ruled[j]);
+    if (empty(kinds)) return 0;
+    size_t o = v->order[first(kinds)], rule = o + 1, dispute = 257 + c;
+    size_t more = (size_t)0 - (size_t)!empty(without(kinds, v->reach[o]));
+    return (uint16_t)(rule ^ ((rule ^ dispute) & more));
+}
+
+static inline uint16_t higher(uint16_t a, uint16_t b) { return a > b ? a : b; }
+static inline uint16_t lower(uint16_t a, uint16_t b) { return a < b ? a : b; }
+static inline uint16_t less(uint16_t a) { return (uint16_t)(a - 1); }
+static inline uint16_t own(size_t c, uint16_t rule, uint16_t inherited) { return rule ? (uint16_t)(c + 1) : inherited; }
+
+/* The entries of kind c. Of its parents' entries for a mark we keep the highest, and the lowest after 1 is taken from each: none, 0, then becomes the
+   highest number of all. So if the highest less 1 is that lowest, all that are not none are equal. Where they differ, the rule kinds decide. */
+static void work_out(const struct book *b, const struct view *v, size_t c, uint16_t *restrict out) {
+    size_t m = b->m;
+    const uint16_t *rules = b->rules + c * m;
+    struct set up = v->parents[c];
+    if (empty(up)) {
+        for (size_t j = 0; j < m; j++) out[j] = own(c, rules[j], 0);
+        return;
+    }
+    const uint16_t *one = b->entries + first(up) * m;
+    drop_first(&up);
+    if (empty(up)) {
+        for (size_t j = 0; j < m; j++) out[j] = own(c, rules[j], one[j]);
+        return;
+    }
+    const uint16_t *other = b->entries + first(up) * m;
+    uint16_t low[MARKS];
+    for (size_t j = 0; j < m; j++) {
+        out[j] = higher(one[j], other[j]);
+        low[j] = lower(less(one[j]), less(other[j]));
+    }
+    for (drop_first(&up); !empty(up); drop_first(&up)) {
+        other = b->entries + first(up) * m;
+        for (size_t j = 0; j < m; j++) {
+            out[j] = higher(out[j], other[j]);
+            low[j] = lower(low[j], less(other[j]));
+        }
+    }
+    uint8_t differ[MARKS] = {0};
+    uint64_t held = 0;
+    for (size_t j = 0; j < m; j++) {
+        differ[j] = (rules[j] == 0) & (less(out[j]) != low[j]);
+        out[j] = own(c, rules[j], out[j]);
+    }
+    for (uint64_t marks = bits_of(differ, MARKS, &held); marks; marks &= marks - 1) out[lowest(marks)] = decide(v, c, lowest(marks));
+}
+
+/* Each kind is worked out from its parents' entries as they stand. If all come out as they stand, they are right from the topmost kinds down; if not,
+   some entry is wrong. So it does not matter what comes out below a wrong one. */
+static int sound(const struct book *b, struct view *v) {
+    size_t n = b->n, m = b->m;
+    uint16_t out[MARKS], wrong = 0;
+    if (!read_links(b, v) || !arrange(v, n)) return 0;
+    read_rules(b, v);
+    for (size_t c = 0; c < n; c++) {
+        const uint16_t *entries = b->entries + c * m;
+        work_out(b, v, c, out);
+        for (size_t j = 0; j < m; j++) wrong |= (uint16_t)(out[j] ^ entries[j]);
+    }
+    return wrong == 0;
+}
+
+static void add_to_tally(const struct book *b) {
+    if (b->tally[0] < UINT32_MAX) b->tally[0]++;
+}
+
+/* One entry worked out and written, as a row is. Whether it was another. */
+static uint32_t settle(const struct book *b, const struct view *v, size_t c, size_t mark) {
+    size_t m = b->m;
+    uint16_t high = 0, low = UINT16_MAX, was = b->entries[c * m + mark];
+    for (struct set up = v->parents[c]; !empty(up); drop_first(&up)) {
+        uint16_t entry = b->entries[first(up) * m + mark];
+        high = higher(high, entry);
+        low = lower(low, less(entry));
+    }
+    if (b->rules[c * m + mark] != 0) high = (uint16_t)(c + 1);
+    else if (less(high) != low) high = decide(v, c, mark);
+    b->entries[c * m + mark] = high;
+    return was != high;
+}
+
+/* The entries of kind c worked out and written. How many were others. */
+static uint32_t settle_row(const struct book *b, const struct view *v, size_t c) {
+    size_t m = b->m;
+    uint16_t out[MARKS], *entries = b->entries + c * m;
+    uint32_t count = 0;
+    work_out(b, v, c, out);
+    for (size_t j = 0; j < m; j++) {
+        count += entries[j] != out[j];
+        entries[j] = out[j];
     }
     return count;
 }
 
-static void tally(const struct book *b) {
-    if (b->tally[0] < UINT32_MAX) b->tally[0]++;
-}
-
-static uint32_t set_rule(const struct book *b, struct rows *rows, struct rows *closed, size_t kind, size_t mark, uint16_t handling) {
-    uint8_t stop[MOST], visited[MOST] = {0};
+/* The edit reaches the kind and those below it, as far as the next own rule. Places are gone through from its own down, so parents come first. */
+static uint32_t set_rule(const struct book *b, struct view *v, size_t kind, size_t mark, uint16_t handling) {
+    struct set reached = only(kind), here = only(v->place[kind]), *ruled = &v->ruled[mark];
     b->rules[kind * b->m + mark] = handling;
-    for (size_t c = 0; c < b->n; c++) stop[c] = b->rules[c * b->m + mark] != 0;
-    visit(b, rows, stop, kind, visited);
-    tally(b);
-    return settle(b, rows, closed, visited, mark, mark + 1);
+    *ruled = handling ? either(*ruled, here) : without(*ruled, here);
+    uint32_t count = settle(b, v, kind, mark);
+    for (size_t i = v->place[kind]; i-- > 0;) {
+        size_t c = v->order[i];
+        if (empty(both(v->parents[c], reached)) || b->rules[c * b->m + mark] != 0) continue;
+        reached = either(reached, only(c));
+        count += settle(b, v, c, mark);
+    }
+    add_to_tally(b);
+    return count;
 }
 
-static uint32_t set_link(const struct book *b, struct rows *rows, struct rows *closed, size_t child, size_t parent, uint8_t byte) {
-    uint8_t stop[MOST] = {0}, visited[MOST] = {0};
+/* The edit reaches the child and all below it. The order is made anew only if the new parent stands before the child. */
+static uint32_t set_link(const struct book *b, struct view *v, size_t child, size_t parent, uint8_t byte) {
+    struct set *parents = &v->parents[child];
     b->links[child * b->n + parent] = byte;
-    if (byte) put(rows, child, parent);
-    else drop(rows, child, parent);
-    *closed = *rows;
-    close_rows(closed, b->n);
-    visit(b, rows, stop, child, visited);
-    tally(b);
-    return settle(b, rows, closed, visited, 0, b->m);
+    *parents = byte ? either(*parents, only(parent)) : without(*parents, only(parent));
+    if (byte && v->place[parent] < v->place[child]) {
+        arrange(v, b->n);
+        read_rules(b, v);
+    }
+    uint32_t count = 0;
+    size_t last = v->place[child];
+    for (size_t i = last + 1; i-- > 0;) {
+        size_t c = v->order[i];
+        if (!has(v->reach[c], last)) continue;
+        v->reach[c] = only(i);
+        for (struct set up = v->parents[c]; !empty(up); drop_first(&up)) v->reach[c] = either(v->reach[c], v->reach[first(up)]);
+        count += settle_row(b, v, c);
+    }
+    add_to_tally(b);
+    return count;
 }
 
 uint32_t twin_add_rule(const struct book *b, uint16_t kind, uint16_t mark, uint16_t handling) {
-    struct rows rows, closed;
+    struct view v;
     if (!shaped(b)) return REFUSED + 1;
     if (kind >= b->n) return REFUSED + 2;
     if (mark >= b->m) return REFUSED + 3;
     if (handling == 0) return REFUSED + 4;
-    if (!sound(b, &rows, &closed)) return REFUSED + 5;
-    return set_rule(b, &rows, &closed, kind, mark, handling);
+    if (!sound(b, &v)) return REFUSED + 5;
+    return set_rule(b, &v, kind, mark, handling);
 }
 
 uint32_t twin_take_rule(const struct book *b, uint16_t kind, uint16_t mark) {
-    struct rows rows, closed;
+    struct view v;
     if (!shaped(b)) return REFUSED + 1;
     if (kind >= b->n) return REFUSED + 2;
     if (mark >= b->m) return REFUSED + 3;
-    if (!sound(b, &rows, &closed)) return REFUSED + 5;
+    if (!sound(b, &v)) return REFUSED + 5;
     if (b->rules[(size_t)kind * b->m + mark] == 0) return REFUSED + 6;
-    return set_rule(b, &rows, &closed, kind, mark, 0);
+    return set_rule(b, &v, kind, mark, 0);
 }
 
 uint32_t twin_add_link(const struct book *b, uint16_t child, uint16_t parent) {
-    struct rows rows, closed;
+    struct view v;
     if (!shaped(b)) return REFUSED + 1;
     if (child >= b->n || parent >= b->n) return REFUSED + 2;
-    if (!sound(b, &rows, &closed)) return REFUSED + 5;
-    if (has(&rows, child, parent)) return REFUSED + 7;
-    if (parent == child || has(&closed, parent, child)) return REFUSED + 9;
-    return set_link(b, &rows, &closed, child, parent, 1);
+    if (!sound(b, &v)) return REFUSED + 5;
+    if (has(v.parents[child], parent)) return REFUSED + 7;
+    if (has(v.reach[parent], v.place[child])) return REFUSED + 9;
+    return set_link(b, &v, child, parent, 1);
 }
 
 uint32_t twin_take_link(const struct book *b, uint16_t child, uint16_t parent) {
-    struct rows rows, closed;
+    struct view v;
     if (!shaped(b)) return REFUSED + 1;
     if (child >= b->n || parent >= b->n) return REFUSED + 2;
-    if (!sound(b, &rows, &closed)) return REFUSED + 5;
-    if (!has(&rows, child, parent)) return REFUSED + 8;
-    return set_link(b, &rows, &closed, child, parent, 0);
+    if (!sound(b, &v)) return REFUSED + 5;
+    if (!has(v.parents[child], parent)) return REFUSED + 8;
+    return set_link(b, &v, child, parent, 0);
 }

@@ -12,16 +12,11 @@ use native.Mathlib.Nat.{mul-le-mul}
 use native.Mathlib.Omega.{arith}
 use lib.ListN.{length, take, replicate, length-replicate, getD-replicate}
 use lib.Seq.{length-take-le}
-use Rattle.inheritance.specs.Above.{Acyclic}
-use Rattle.relation.specs.Bit.{bit}
-use Rattle.relation.specs.Closed.{Closed}
-use Rattle.settling.specs.Examined.{Related}
-use Rattle.settling.specs.Row.{Sized}
+use Rattle.arranging.specs.Arranged.{Arranged}
+use Rattle.settling.specs.Merged.{Sized}
 use Rattle.settling.specs.Settled.{Awaiting}
-use Rattle.settling.proofs.Soundness.{acyclic-rows}
-use Rattle.tables.specs.Tables.{Tables, shaped, well-linked}
+use Rattle.tables.specs.Tables.{Tables, shaped}
 use Rattle.tables.proofs.ShapeLaws.{sized-facts}
-use Rattle.tables.proofs.SoundLaws.{links-mean}
 
 -- k is not written as 128, so that `replicate k 1` stays as it is
 pub all-visited : (k m : ℕ) {n lo hi : ℕ} (up : ℕ → ℕ → Bool) (rules entries : List ℕ) → k ≡ 128 → n ≤ 128 → Awaiting n m lo hi up rules (replicate k 1) entries
@@ -38,11 +33,10 @@ module _ (n m : ℕ) (t : Tables) (is : shaped n m t ≡ true) where
         omega (arith, s .entries-length, mul-le-mul (s .kinds .1) (s .marks .1)),
       )
 
-  pub gather-ready : {rows closed lookups : List ℕ} → well-linked n (t .links) ≡ true → Related n (t .links) rows closed → length lookups ≡ length (t .entries)
-      → Sized n m (t .rules) lookups × Closed n n rows closed × Acyclic n (bit rows)
-  gather-ready {rows} good related same =
+  pub gather-ready : {rows order reach lookups : List ℕ} → Arranged n rows order reach → length lookups ≡ length (t .entries)
+      → Sized n m (t .rules) lookups × Arranged n rows order reach
+  gather-ready arranged same =
       let s = sized-facts 1 1 n m _ _ _ _ is in (
         record { kinds = s .kinds .1; marks = s .marks .1; rules-size = omega (arith, s .rules-length); entries-size = omega (arith, s .entries-length) },
-        related .closes,
-        acyclic-rows n (t .links) rows (s .kinds .1) (related .loaded) (links-mean n m t good .1),
+        arranged,
       )

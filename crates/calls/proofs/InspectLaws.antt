@@ -8,16 +8,20 @@
 -- Assumes nothing.
 use mathlib.Core.Path.{_≡_, refl, sym, _∙_, ap}
 use mathlib.Core.Logic.{by-cases}
-use mathlib.Core.Bool.{Bool, true, false, _&&_, true≢false, false≢true}
+use mathlib.Core.Bool.{Bool, true, false, _&&_, not, true≢false, false≢true}
 use mathlib.Core.List.{List}
 use Prim.Native.Nat.{ℕ, zero, suc, _+_, _*_, _<_, _≤_}
 use native.Mathlib.Decide.{decLt}
 use native.Mathlib.Omega.{arith}
 use lib.ListN.{length}
-use Rattle.settling.specs.Examined.{Related}
-use Rattle.settling.proofs.Soundness.{free-tests}
+use Rattle.inheritance.specs.Above.{above}
+use Rattle.inheritance.proofs.AboveLaws.{above-same}
+use Rattle.relation.specs.Bit.{bit}
+use Rattle.relation.specs.Closed.{Closed}
+use Rattle.loading.specs.Loaded.{Loaded}
+use Rattle.settling.proofs.Soundness.{rows-links}
 use Rattle.tables.specs.Reply.{refused, given}
-use Rattle.tables.specs.Tables.{Tables, shaped, entriesOf, all-below, byte-right, kind-free, entry-right, well-linked}
+use Rattle.tables.specs.Tables.{Tables, shaped, upOf, entriesOf, all-below, byte-right, kind-free, entry-right, well-linked}
 use Rattle.tables.specs.Calls.{check, lowest, firstFault, faultOf, inspect}
 use Rattle.tables.proofs.CallLaws.{Lowest, lowest-fails}
 use Rattle.tables.proofs.ShapeLaws.{sized-facts}
@@ -93,24 +97,37 @@ module _ {f : ℕ → Bool} {k i : ℕ} (s : Searching f k i) where
 
 -- ---- inspect
 
+-- a kind is in its own closed row just where it is above itself
+free-tests : (n : ℕ) (links rows closed : List ℕ) → n ≤ 128 → Loaded n links rows → Closed n n rows closed → (c : ℕ) → c < n → off-own-row closed c ≡ kind-free n links c
+unfolding above
+free-tests n links rows closed kinds loaded closes c h =
+    ap not (closes .bits c c h (omega arith) ∙ above-same n (bit rows) (upOf n links) (rows-links n links rows kinds loaded) c c h h)
+
 module _ (n m : ℕ) (t : Tables) where
   pub inspect-refused : shaped n m t ≡ false → refused 1 ≡ inspect n m t .reply
   unfolding inspect check
   inspect-refused is = rw is refl
 
-  pub inspect-links : {rows closed : List ℕ} → shaped n m t ≡ true → Related n (t .links) rows closed → well-linked n (t .links) ≡ false
+  -- the rows have the links if every byte is 0 or 1: else the byte is the fault, whatever the rows have
+  pub inspect-links : {rows closed : List ℕ} → shaped n m t ≡ true → (all-below (byte-right (t .links)) (length (t .links)) ≡ true → Loaded n (t .links) rows)
+      → Closed n n rows closed → well-linked n (t .links) ≡ false
       → given (linkFault n (t .links) closed) ≡ inspect n m t .reply
   unfolding inspect check faultOf well-linked
-  inspect-links {rows} {closed} is related bad =
-      let s = sized-facts 1 1 n m _ _ _ _ is in
-      let kinds : lowest (off-own-row closed) n ≡ lowest (kind-free n (t .links)) n =
-      lowest-same _ _ n (free-tests n (t .links) rows (s .kinds .1) (related .loaded) closed (related .closes)) in
-      rw (is, s .links-length, kinds) (ap given (go (all-below (byte-right (t .links)) (n * n)) (all-below (kind-free n (t .links)) n) (all-below (entry-right n m t) (n * m)) _ _ _ bad))
+  inspect-links {rows} {closed} is loaded closes bad =
+      rw (is, size) (ap given (go (all-below (byte-right (t .links)) (n * n)) refl (all-below (kind-free n (t .links)) n) (all-below (entry-right n m t) (n * m)) _ _ bad))
     where
-      go : (a b c : Bool) (byte kind entry : ℕ) → (a && b) ≡ false → firstFault a false true byte kind 0 ≡ firstFault a b c byte kind entry
-      go false b c byte kind entry e = refl
-      go true false c byte kind entry e = refl
-      go true true c byte kind entry e = absurd (true≢false e)
+      size : length (t .links) ≡ n * n
+      size = sized-facts 1 1 n m _ _ _ _ is .links-length
+
+      kinds : all-below (byte-right (t .links)) (n * n) ≡ true → lowest (off-own-row closed) n ≡ lowest (kind-free n (t .links)) n
+      kinds right = lowest-same _ _ n
+          (free-tests n (t .links) rows closed (sized-facts 1 1 n m _ _ _ _ is .kinds .1) (loaded (ap (all-below (byte-right (t .links))) size ∙ right)) closes)
+
+      go : (a : Bool) → all-below (byte-right (t .links)) (n * n) ≡ a → (b c : Bool) (byte entry : ℕ) → (a && b) ≡ false
+          → firstFault a false true byte (lowest (off-own-row closed) n) 0 ≡ firstFault a b c byte (lowest (kind-free n (t .links)) n) entry
+      go false q b c byte entry e = refl
+      go true q false c byte entry e = ap (λ (k : ℕ). firstFault true false true byte k 0) (kinds q)
+      go true q true c byte entry e = absurd (true≢false e)
 
   pub inspect-entries : {lookups : List ℕ} → shaped n m t ≡ true → well-linked n (t .links) ≡ true → lookups ≡ entriesOf n m (t .links) (t .rules)
       → given (entryFault (t .entries) lookups) ≡ inspect n m t .reply

@@ -7,8 +7,8 @@ pub mod LinkEditLaws
 pub mod OpenLaws
 pub mod PartyLaws
 pub mod RefreshLaws
+pub mod ResetLaws
 pub mod ResettleLaws
 pub mod RuleEditLaws
-pub mod SeenWalk
 pub mod StopLaws
 pub mod TallyLaws

@@ -2,18 +2,18 @@
 --     LinkAdmitted, link-admitted              what `askedLink` has tested where it lets a call through
 --     link-refused, link-passed                refusals 1 and 2, and what comes after them
 --     added-link, taken-link                   the two calls are the two cases of `linkCall`
---     judged-links                             what the rows and the closed rows say is what the links say
+--     judged-links                             what the rows and the places reached say is what the links say
 --     link-unsound, link-judged                refusal 5; refusals 7, 8 and 9
---     Changed, link-changed                    what is known once the link is changed in table and rows
+--     link-prepared                            what is prepared once the link is changed in table and rows
 --     link-untouched                           what is then known of the entries
 --     link-done                                what an accepted edit leaves and answers
 -- Assumes nothing.
-use mathlib.Core.Path.{_≡_, refl, sym, _∙_, ap, ap₂, subst}
-use mathlib.Core.Bool.{Bool, true, false, cond, _&&_, _||_, not, false≢true}
+use mathlib.Core.Path.{_≡_, refl, sym, _∙_, ap, ap₂}
+use mathlib.Core.Bool.{Bool, true, false, cond, _&&_, _||_, false≢true}
 use mathlib.Core.List.{List}
-use Prim.Native.Nat.{ℕ, _+_, _*_, _<_, _≤_}
+use Prim.Native.Nat.{ℕ, _+_, _*_, _<_}
 use native.Mathlib.Omega.{arith}
-use borrow.Author.Tests.{eqb-true, eqb-false, lt-ltb, ltb-true}
+use borrow.Author.Tests.{eq-eqb, eqb-true, lt-ltb, ltb-true}
 use lib.Arith.{digits-lt}
 use lib.Dec.{eqb, ltb}
 use lib.ListN.{length, getD, set}
@@ -24,22 +24,25 @@ use Rattle.inheritance.specs.Above.{above, Acyclic}
 use Rattle.inheritance.specs.Above as numbers
 use Rattle.inheritance.specs.Checked.{kind, kindBelow}
 use Rattle.inheritance.proofs.AboveLaws.{above-same}
-use Rattle.relation.specs.Bit.{bit, Added, Removed}
-use Rattle.relation.specs.Loaded.{Loaded, link}
+use Rattle.inheritance.proofs.LeftLaws.{same-bool}
+use Rattle.relation.specs.Bit.{bit}
+use Rattle.relation.specs.First.{First}
+use Rattle.loading.specs.Loaded.{Loaded, link}
 use Rattle.relation.proofs.Bools.{both-eqb, eqb-both}
+use Rattle.deciding.specs.Deciding.{Prepared}
 use Rattle.settling.specs.Settled.{Settled}
 use Rattle.settling.proofs.Editing.{link-awaiting, link-settled}
 use Rattle.settling.proofs.Soundness.{rows-links, acyclic-rows}
 use Rattle.tables.specs.declared.Refusal.{Refusal}
-use Rattle.tables.specs.Calls.{Outcome, leaves, check, accepted, addLink, takeLink}
+use Rattle.tables.specs.Calls.{Outcome, leaves, check, addLink, takeLink}
 use Rattle.tables.specs.Reply.{refused, given, refusalNumber}
 use Rattle.tables.specs.Tables.{Tables, lent, shaped, upOf, sound, tallied}
 use Rattle.tables.proofs.EditLaws.{added-acyclic, taken-acyclic}
 use Rattle.tables.proofs.TableLaws.{place-split}
 use Rattle.calls.specs.declared.links.LinkAsked.{LinkAsked}
 use Rattle.calls.specs.declared.links.Verdict.{Verdict}
-use Rattle.calls.specs.Edits.{Untouched, askedLink, judged, linkChecked, linkEdit, linkCall, changed, Relinked}
-use Rattle.calls.proofs.KnownLaws.{Known, given-accepted}
+use Rattle.calls.specs.Edits.{Untouched, askedLink, judged, linkChecked, linkEdit, linkCall, changed, Reset, Relinked}
+use Rattle.calls.proofs.KnownLaws.{Known, known-place, given-accepted}
 
 -- ---- refusals 1 and 2
 
@@ -119,25 +122,8 @@ no-cycle false false e = refl
 
 -- ---- the rows with the link changed
 
-pub marked-changed : (c p : ℕ) {old new : List ℕ} → Added old new (λ d q. eqb d c && eqb q p)
-    → (d q : ℕ) → q < 128 → bit new d q ≡ changed true (eqb d c && eqb q p) (bit old d q)
-marked-changed c p {old} {new} a d q h = a .bits d q h ∙ go (bit old d q) (eqb d c && eqb q p)
-  where
-    go : (b t : Bool) → (b || t) ≡ changed true t b
-    go true true = refl
-    go true false = refl
-    go false true = refl
-    go false false = refl
-
-pub unmarked-changed : (c p : ℕ) {old new : List ℕ} → Removed old new (λ d q. eqb d c && eqb q p)
-    → (d q : ℕ) → q < 128 → bit new d q ≡ changed false (eqb d c && eqb q p) (bit old d q)
-unmarked-changed c p {old} {new} r d q h = r .bits d q h ∙ go (bit old d q) (eqb d c && eqb q p)
-  where
-    go : (b t : Bool) → (b && not t) ≡ changed false t b
-    go true true = refl
-    go true false = refl
-    go false true = refl
-    go false false = refl
+eqb-turned : (x y : ℕ) → eqb x y ≡ eqb y x
+eqb-turned x y = same-bool _ _ (λ e. eq-eqb y x (sym (eqb-true x y e))) (λ e. eq-eqb x y (sym (eqb-true y x e)))
 
 eqb-bit : (b : Bool) → eqb (numbers.bit b) 1 ≡ b
 eqb-bit true = refl
@@ -171,8 +157,8 @@ module _ (n : ℕ) (links : List ℕ) (c p : ℕ) (c-in : c < n) (p-in : p < n) 
           rw (d-same, q-same) there
       go false e = elsewhere (ltb q n) refl e
 
-  relinked-loaded : {old rows closed : List ℕ} → Loaded n links old → Relinked n c p adding old rows closed → Loaded n (set links (c * n + p) (numbers.bit adding)) rows
-  relinked-loaded loaded r = record {
+  reset-loaded : {old rows : List ℕ} → Loaded n links old → Reset c p adding old rows → Loaded n (set links (c * n + p) (numbers.bit adding)) rows
+  reset-loaded loaded r = record {
     long = r .long;
     bits = λ d q h. r .bits d q h ∙ ap (changed adding (eqb d c && eqb q p)) (loaded .bits d q h) ∙ sym (changed-link d q);
   }
@@ -193,14 +179,15 @@ module _ (n m : ℕ) (t : Tables) (c p : ℕ) (adding : Bool) where
   unfolding linkEdit check
   link-unsound e = rw e refl
 
-  module _ {rows closed : List ℕ} (k : Known n m t rows closed) (c-in : c < n) (p-in : p < n) where
-    pub judged-links : judged adding (bit rows c p) (eqb p c || bit closed p c) ≡ judged adding linked cycle
-    unfolding above
-    judged-links =
-        let same = rows-links n (t .links) rows (k .has .kinds .1) (k .related .loaded) in
+  module _ {rows order reach ruled : List ℕ} (k : Known n m t rows order reach ruled) (c-in : c < n) (p-in : p < n) where
+    pub judged-links : {place : ℕ} → First (bit reach c) 0 128 place → judged adding (bit rows c p) (bit reach p place) ≡ judged adding linked cycle
+    judged-links {place} first =
+        let same = rows-links n (t .links) rows (k .has .kinds .1) (k .loaded) in
+        let (within, is) = known-place n m t k c c-in first in
         ap₂ (judged adding) (same c p c-in p-in)
-        (ap (λ (b : Bool). eqb p c || b)
-        (k .related .closes .bits p c p-in (omega (arith, k .has .kinds)) ∙ above-same n (bit rows) (upOf n (t .links)) same p c p-in c-in))
+        (k .prepared .arranged .reaches p place p-in within
+        ∙ ap₂ _||_ (ap (λ (x : ℕ). eqb x p) is ∙ eqb-turned c p)
+        (ap (above n (bit rows) p) is ∙ above-same n (bit rows) (upOf n (t .links)) same p c p-in c-in))
 
     pub link-judged : {why : Refusal} → judged adding linked cycle ≡ Verdict.Refused why
         → leaves (refused (refusalNumber why)) t ≡ linkEdit n m t c p adding
@@ -215,17 +202,20 @@ module _ (n m : ℕ) (t : Tables) (c p : ℕ) (adding : Bool) where
           go true e = added-acyclic n m t (k .has) c p c-in p-in (no-cycle linked cycle e)
           go false e = taken-acyclic n m t (k .has) c p c-in p-in
 
-      module _ {rows′ closed′ : List ℕ} (r : Relinked n c p adding rows rows′ closed′) where
+      module _ {rows′ order′ reach′ ruled′ : List ℕ} (r : Relinked n m c p adding (t .rules) rows rows′ order′ reach′ ruled′) where
         loaded-after : Loaded n relinked rows′
-        loaded-after = relinked-loaded n (t .links) c p c-in p-in (k .has .links-size) adding (k .related .loaded) r
+        loaded-after = reset-loaded n (t .links) c p c-in p-in (k .has .links-size) adding (k .loaded) (r .reset)
 
-        pub acyclic-relinked : Acyclic n (bit rows′)
+        acyclic-relinked : Acyclic n (bit rows′)
         acyclic-relinked = acyclic-rows n relinked rows′ (k .has .kinds .1) loaded-after acyclic-after
+
+        pub link-prepared : Prepared n m rows′ (t .rules) order′ reach′ ruled′
+        link-prepared = r .ready acyclic-relinked
 
         pub link-untouched : Untouched n m 0 m (bit rows′) (λ _. false) c (t .rules) (t .entries)
         unfolding Untouched
         link-untouched =
-            link-awaiting n m (t .links) (t .rules) rows (t .entries) (k .has .kinds .1) (k .has .entries-size) (k .related .loaded) (k .acyclic)
+            link-awaiting n m (t .links) (t .rules) rows (t .entries) (k .has .kinds .1) (k .has .entries-size) (k .loaded) (k .acyclic)
             (k .has .before .entries) c p (numbers.bit adding) p-in rows′ loaded-after acyclic-relinked
 
         pub link-done : {new : List ℕ} {count : ℕ} → Settled n m 0 m (bit rows′) (t .rules) (t .entries) new count
@@ -234,6 +224,6 @@ module _ (n m : ℕ) (t : Tables) (c p : ℕ) (adding : Bool) where
         link-done s =
             rw (k .is-sound)
             (given-accepted n m t relinked (t .rules)
-            (link-settled n m (t .links) (t .rules) rows (t .entries) (k .has .kinds .1) (k .has .entries-size) (k .related .loaded) (k .acyclic)
+            (link-settled n m (t .links) (t .rules) rows (t .entries) (k .has .kinds .1) (k .has .entries-size) (k .loaded) (k .acyclic)
             (k .has .before .entries) c p (numbers.bit adding) p-in rows′ loaded-after acyclic-relinked s)
             ∙ sym (checked-allowed adding linked cycle t _ allowed))

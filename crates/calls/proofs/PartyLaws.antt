@@ -1,39 +1,27 @@
 -- What parties answers, by where its checks end.
 --     parties-refused, parties-at           refusals 1, 2 and 3 by the cases of `asked`, as code goes
 --     unsound, no-dispute, disputed         refusals 5 and 11, and where neither is given
---     dispute-two                           on sound tables two rule kinds are seen from a kind whose entry is a dispute
---     pair-parties                          two kinds seen by the rows are two parties
 -- Assumes nothing.
-use mathlib.Core.Path.{_≡_, refl, sym, _∙_, ap}
+use mathlib.Core.Path.{_≡_, refl}
 use mathlib.Core.Bool.{Bool, true, false, cond, true≢false, false≢true}
-use mathlib.Core.List.{List}
-use Prim.Native.Nat.{ℕ, _+_, _*_, _-_, _<_, _≤_}
+use Prim.Native.Nat.{ℕ, _+_, _*_, _<_, _≤_}
 use native.Mathlib.Omega.{arith}
 use borrow.Author.Tests.{lt-ltb, le-leb, lt-leb}
 use lib.Dec.{ltb}
-use lib.ListN.{length, getD}
+use lib.ListN.{getD}
 use Rattle.inheritance.specs.declared.Kind.{Kind}
 use Rattle.inheritance.specs.declared.Mark.{Mark}
 use Rattle.inheritance.specs.declared.CheckedKind.{CheckedKind}
 use Rattle.inheritance.specs.declared.CheckedMark.{CheckedMark}
 use Rattle.inheritance.specs.Checked.{kind, mark, kindBelow, markBelow}
-use Rattle.inheritance.specs.Lookup.{Seen, TwoSeen}
-use Rattle.inheritance.proofs.SeenLaws.{lookup-dispute-iff}
-use Rattle.relation.specs.Bit.{bit}
-use Rattle.relation.specs.Loaded.{Loaded}
-use Rattle.settling.proofs.Soundness.{rows-links}
 use Rattle.tables.specs.declared.Refusal.{Refusal}
 use Rattle.tables.specs.declared.Asked.{Asked}
 use Rattle.tables.specs.Ask.{asked}
 use Rattle.tables.specs.Calls.{Check, TwoParties, PartiesGive}
-use Rattle.tables.specs.Entry.{lookupOf}
 use Rattle.tables.specs.Reply.{Reply, refused, TwoKinds, refusalNumber}
-use Rattle.tables.specs.Tables.{Tables, shaped, upOf, ownOf, sound}
-use Rattle.tables.proofs.EntryLaws.{lookup-dispute}
+use Rattle.tables.specs.Tables.{Tables, shaped, sound}
 use Rattle.tables.proofs.ShapeLaws.{asked-at}
-use Rattle.tables.proofs.SoundLaws.{sound-means, entries-looked, lookup-read}
-use Rattle.calls.specs.Parties.{SeenPair, Disputing}
-use Rattle.calls.proofs.SeenWalk.{seen-same, two-same}
+use Rattle.calls.specs.Parties.{Disputing}
 
 -- ---- the checks
 
@@ -78,29 +66,3 @@ module _ (n m : ℕ) (t : Tables) (c i : ℕ) where
 
   pub unsound : sound n m t ≡ false → Disputing n m t c i (refused 5)
   unsound is = refuse 5 (refused 5) _ (sound n m t) is refl
-
--- ---- the parties of a dispute
-
-module _ (n m : ℕ) (t : Tables) (rows : List ℕ) (kinds : n ≤ 128) (loaded : Loaded n (t .links) rows) {c i : ℕ} (c<n : c < n) (i<m : i < m) where
-  pub dispute-two : length (t .entries) ≡ n * m → sound n m t ≡ true → 257 ≤ getD (t .entries) (c * m + i) 0
-      → TwoSeen n (bit rows) (ownOf m (t .rules) i) c
-  dispute-two size is high =
-      let s = sound-means n m t size is in
-      let e = getD (t .entries) (c * m + i) 0 in
-      let looked = entries-looked n m (t .links) (t .rules) (t .entries) (s .entries) c i c<n i<m in
-      let read = sym (lookup-read n m (upOf n (t .links)) (t .rules) (t .entries) (omega arith) c i c<n) ∙ ap lookupOf (sym looked) ∙ lookup-dispute e high in
-      two-same n (upOf n (t .links)) (bit rows) (ownOf m (t .rules) i) (ownOf m (t .rules) i)
-      (λ d p hd hp. sym (rows-links n (t .links) rows kinds loaded d p hd hp)) (λ _ _. refl) c<n
-      (lookup-dispute-iff n (upOf n (t .links)) (ownOf m (t .rules) i) (s .acyclic) c c<n .0 (e - 257, read))
-
-  pub pair-parties : {reply : Reply TwoKinds} → SeenPair n (bit rows) (ownOf m (t .rules) i) c reply → TwoParties n m t c i reply
-  pair-parties p = record {
-    pair = p .pair;
-    gives = p .gives;
-    one-seen = by-links (p .one-seen);
-    other-seen = by-links (p .other-seen);
-    different = p .different;
-  }
-    where
-      by-links : {o : ℕ} → Seen n (bit rows) (ownOf m (t .rules) i) c o → Seen n (upOf n (t .links)) (ownOf m (t .rules) i) c o
-      by-links = seen-same n (bit rows) (upOf n (t .links)) (ownOf m (t .rules) i) (ownOf m (t .rules) i) (rows-links n (t .links) rows kinds loaded) (λ _ _. refl) c<n

@@ -3,11 +3,12 @@
 --     take-refused, take-passed                refusals 1 to 3 of a take, and what comes after them
 --     rule-unsound, rule-absent                refusals 5 and 6
 --     rule-within, rule-sized                  the place of the rule, and the tables once it is stored
+--     rule-prepared                            what is prepared, once the kind is put among the rule kinds or taken out
 --     rule-untouched                           what is then known of the entries once the rule is stored
 --     rule-done                                what an accepted edit leaves and answers
 -- Assumes nothing.
-use mathlib.Core.Path.{_≡_, refl, sym, _∙_, ap}
-use mathlib.Core.Bool.{Bool, true, false, _&&_}
+use mathlib.Core.Path.{_≡_, refl, sym, _∙_}
+use mathlib.Core.Bool.{true, false, _&&_, not}
 use mathlib.Core.Logic.{_≢_}
 use mathlib.Core.List.{List}
 use Prim.Native.Nat.{ℕ, _+_, _*_, _<_}
@@ -19,9 +20,12 @@ use Rattle.inheritance.specs.declared.Kind.{Kind}
 use Rattle.inheritance.specs.declared.Mark.{Mark}
 use Rattle.inheritance.specs.Checked.{kindBelow, markBelow}
 use Rattle.relation.specs.Bit.{bit}
-use Rattle.settling.specs.Row.{Sized}
+use Rattle.relation.specs.First.{First}
+use Rattle.deciding.specs.Deciding.{Prepared}
+use Rattle.settling.specs.Merged.{Sized}
 use Rattle.settling.specs.Settled.{Settled}
 use Rattle.settling.proofs.Editing.{rule-awaiting, rule-settled}
+use Rattle.deciding.proofs.Preparing.{prepared-set}
 use Rattle.tables.specs.declared.Asked.{Asked}
 use Rattle.tables.specs.declared.Refusal.{Refusal}
 use Rattle.tables.specs.Ask.{asked}
@@ -29,8 +33,8 @@ use Rattle.tables.specs.Calls.{leaves, check, addRule, takeRule}
 use Rattle.tables.specs.Reply.{refused, given, refusalNumber}
 use Rattle.tables.specs.Tables.{Tables, lent, shaped, ownOf, sound, tallied}
 use Rattle.tables.proofs.ShapeLaws.{asked-at, checks-pass, checks-refuse}
-use Rattle.calls.specs.Edits.{Untouched, ruleEdit}
-use Rattle.calls.proofs.KnownLaws.{Known, given-accepted}
+use Rattle.calls.specs.Edits.{Untouched, ruleEdit, changed, Reset}
+use Rattle.calls.proofs.KnownLaws.{Known, known-place, given-accepted}
 
 -- ---- refusals 1 to 4
 
@@ -82,7 +86,7 @@ module _ (n m : ℕ) (t : Tables) (kind mark handling : ℕ) where
   rule-unsound e = rw e refl
 
   -- i is the place of the rule
-  module _ {rows closed : List ℕ} (k : Known n m t rows closed) (kind-in : kind < n) (mark-in : mark < m) (i : ℕ) (at : i ≡ kind * m + mark) where
+  module _ {rows order reach ruled : List ℕ} (k : Known n m t rows order reach ruled) (kind-in : kind < n) (mark-in : mark < m) (i : ℕ) (at : i ≡ kind * m + mark) where
     pub rule-within : i < length (t .rules)
     rule-within = rw (at, k .has .rules-size) (digits-lt kind-in mark-in)
 
@@ -98,11 +102,19 @@ module _ (n m : ℕ) (t : Tables) (kind mark handling : ℕ) where
       entries-size = k .has .entries-size;
     }
 
+    pub rule-prepared : {place : ℕ} {new : List ℕ} → First (bit reach kind) 0 128 place → Reset mark place (not (eqb handling 0)) ruled new
+        → Prepared n m rows (set (t .rules) i handling) order reach new
+    rule-prepared {place} {new} first r =
+        let (within, is) = known-place n m t k kind kind-in first in
+        rw at
+        (prepared-set m (t .rules) kind mark handling mark-in n (k .has .rules-size) rows order reach ruled new place within is (k .prepared)
+        (λ before here. changed (not (eqb handling 0)) here before) (λ b. refl) (λ b. refl) (r .long) (r .bits))
+
     pub rule-untouched : Untouched n m mark (mark + 1) (bit rows) (ownOf m (set (t .rules) i handling) mark) kind (set (t .rules) i handling) (t .entries)
     unfolding Untouched
     rule-untouched =
         rw at
-        (rule-awaiting n m (t .links) (t .rules) rows (t .entries) (k .has .kinds .1) (k .has .entries-size) (k .related .loaded) (k .acyclic)
+        (rule-awaiting n m (t .links) (t .rules) rows (t .entries) (k .has .kinds .1) (k .has .entries-size) (k .loaded) (k .acyclic)
         (k .has .before .entries) kind mark handling mark-in)
 
     pub rule-done : {new : List ℕ} {count : ℕ} → (eqb handling 0 && eqb (getD (t .rules) i 0) 0) ≡ false
@@ -113,5 +125,5 @@ module _ (n m : ℕ) (t : Tables) (kind mark handling : ℕ) where
         rw (k .is-sound, ← at, e)
         (given-accepted n m t (t .links) (set (t .rules) i handling)
         (rw at
-        (rule-settled n m (t .links) (t .rules) rows (t .entries) (k .has .kinds .1) (k .has .entries-size) (k .related .loaded) (k .acyclic)
+        (rule-settled n m (t .links) (t .rules) rows (t .entries) (k .has .kinds .1) (k .has .entries-size) (k .loaded) (k .acyclic)
         (k .has .before .entries) kind mark handling mark-in (rw at at s))))

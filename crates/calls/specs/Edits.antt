@@ -5,7 +5,8 @@
 --     askedLink              refusals 1 and 2 of an edit of a link, by what the checked constructor gives
 --     judged                 refusals 7 and 9 of an add, and 8 of a take, by whether the link is there and whether it would close a cycle
 --     linkEdit, linkCall     an edit of a link, from refusal 5 on and as a whole
---     Relinked               one link is added or taken in the rows, and closed has who is above whom again
+--     Reset                  one bit of the rows is put in or taken out
+--     Relinked               .. that of a link, and all is prepared for the new links if no kind is above itself
 -- Assumes nothing.
 use mathlib.Core.Path.{_≡_}
 use mathlib.Core.Bool.{Bool, true, false, _&&_, _||_, not}
@@ -15,11 +16,11 @@ use lib.Dec.{eqb, ltb}
 use lib.ListN.{length, getD, set}
 use Rattle.inheritance.specs.declared.Kind.{Kind}
 use Rattle.inheritance.specs.declared.CheckedKind.{CheckedKind}
-use Rattle.inheritance.specs.Above.{above}
+use Rattle.inheritance.specs.Above.{above, Acyclic}
 use Rattle.inheritance.specs.Above as numbers
 use Rattle.inheritance.specs.Lookup.{Below}
 use Rattle.relation.specs.Bit.{bit}
-use Rattle.relation.specs.Closed.{Closed}
+use Rattle.deciding.specs.Deciding.{Prepared}
 use Rattle.settling.specs.Settled.{Visited, Awaiting}
 use Rattle.tables.specs.declared.Refusal.{Refusal}
 use Rattle.tables.specs.Calls.{Outcome, check, accepted}
@@ -72,7 +73,10 @@ abbrev pub changed : (adding here before : Bool) → Bool
 changed adding true before = adding
 changed adding false before = before
 
-pub record Relinked (n c p : ℕ) (adding : Bool) (old rows closed : List ℕ) : Type 0 where
-  pub long : length rows ≡ 256
-  pub bits : (d q : ℕ) → q < 128 → bit rows d q ≡ changed adding (eqb d c && eqb q p) (bit old d q)
-  pub closes : Closed n n rows closed
+pub record Reset (c p : ℕ) (value : Bool) (old new : List ℕ) : Type 0 where
+  pub long : length new ≡ 256
+  pub bits : (d q : ℕ) → q < 128 → bit new d q ≡ changed value (eqb d c && eqb q p) (bit old d q)
+
+pub record Relinked (n m c p : ℕ) (adding : Bool) (rules old rows order reach ruled : List ℕ) : Type 0 where
+  pub reset : Reset c p adding old rows
+  pub ready : Acyclic n (bit rows) → Prepared n m rows rules order reach ruled

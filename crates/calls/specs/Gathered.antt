@@ -5,7 +5,7 @@ use mathlib.Core.Path.{_≡_}
 use mathlib.Core.List.{List}
 use Prim.Native.Nat.{ℕ, _*_}
 use lib.ListN.{length}
-use Rattle.relation.specs.Loaded.{Loaded}
+use Rattle.loading.specs.Loaded.{Loaded}
 use Rattle.tables.specs.Tables.{entriesOf}
 
 pub record Gathered (n m : ℕ) (rows rules table : List ℕ) : Type 0 where

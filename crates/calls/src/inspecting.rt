@@ -1,6 +1,7 @@
 // Inspect: the first fault of the tables.
 use crate::gathering::gather;
 use inheritance::Kind;
+use relation::close;
 use relation::test;
 use settling::examine_links;
 use tables::Inspected;
@@ -82,13 +83,23 @@ pub fn inspect(
         return Inspected::Refused(Refusal::Shape);
     }
     let mut rows = [0u64; 256];
-    let mut closed = [0u64; 256];
-    let linked = examine_links(n as usize, links, &mut rows, &mut closed);
+    let mut order = [0u8; 128];
+    let mut reach = [0u64; 256];
+    let linked = examine_links(n as usize, links, &mut rows, &mut order, &mut reach);
     if !linked {
-        return link_fault(n as usize, links, &closed);
+        close(&mut rows, n as usize);
+        return link_fault(n as usize, links, &rows);
     }
     let mut scratch = [0u16; 8192];
     let lookups = &mut scratch[..entries.len()];
-    gather(&rows, &closed, n as usize, m as usize, rules, lookups);
+    gather(
+        &rows,
+        &order,
+        &reach,
+        n as usize,
+        m as usize,
+        rules,
+        lookups,
+    );
     entry_fault(entries, lookups)
 }

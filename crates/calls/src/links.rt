@@ -1,19 +1,20 @@
 // The edits of a link. Nothing is written before the tables are known to be sound.
 use crate::resettling::resettle_link;
 use crate::tallying::count_edit;
+use arranging::arrange;
+use deciding::rule_rows;
 use inheritance::CheckedKind;
 use inheritance::Kind;
-use relation::close;
 use relation::mark;
+use relation::next;
 use relation::test;
 use relation::unmark;
 use settling::examine;
 use tables::Edited;
 use tables::Refusal;
 ghost use mathlib.Core.Path.{_≡_};
-ghost use mathlib.Core.Bool.{true, false, _||_};
-ghost use Prim.Native.Nat.{_<_, _≤_};
-ghost use lib.Dec.{eqb};
+ghost use mathlib.Core.Bool.{true, false};
+ghost use Prim.Native.Nat.{_*_, _<_, _≤_};
 ghost use lib.ListN.{length};
 ghost use Rattle.inheritance.specs.Checked.{kindBelow};
 ghost use Rattle.relation.specs.Bit.{bit};
@@ -50,19 +51,21 @@ fn ask_link(shaped: bool, n: u16, child: Kind, parent: Kind) -> LinkAsked
     LinkAsked::Between(c, p)
 }
 
-// Refusals 7 and 9 of an add, in this order, and 8 of a take. The rows have the links, and closed has who is above whom.
+// Refusals 7 and 9 of an add, in this order, and 8 of a take. The rows have the links, and reach the places of the kinds at or
+// above each; `at` is the place of the child.
 fn judge(
     rows: &[u64; 256],
-    closed: &[u64; 256],
+    reach: &[u64; 256],
     child: usize,
     parent: usize,
+    at: usize,
     adding: bool,
 ) -> Verdict
-    requires { ⌜ (child < 128) × (parent < 128) ⌝ }
-    ensures { λ r. ⌜ r ≡ judged adding (bit (now (rows .entry)) child parent) (eqb parent child || bit (now (closed .entry)) parent child) ⌝ }
+    requires { ⌜ (child < 128) × (parent < 128) × (at < 128) ⌝ }
+    ensures { λ r. ⌜ r ≡ judged adding (bit (now (rows .entry)) child parent) (bit (now (reach .entry)) parent at) ⌝ }
 {
     let linked = test(rows, child, parent);
-    let cycle = (parent == child) | test(closed, parent, child);
+    let cycle = test(reach, parent, at);
     if adding {
         if linked {
             Verdict::Refused(Refusal::Linked)
@@ -78,25 +81,32 @@ fn judge(
     }
 }
 
-// The link is put into the rows or taken out of them, and they are closed anew.
+// The link is put into the rows or taken out of them, and all is prepared anew.
 fn relink(
-    rows: &mut [u64; 256],
-    closed: &mut [u64; 256],
     n: usize,
+    m: usize,
+    rules: &[u16],
+    rows: &mut [u64; 256],
+    order: &mut [u8; 128],
+    reach: &mut [u64; 256],
+    ruled: &mut [u64; 256],
     child: usize,
     parent: usize,
     adding: bool,
 )
-    requires { ⌜ (n ≤ 128) × (child < n) × (parent < n) × (length (now rows) ≡ 256) ⌝ }
-    ensures { λ _. ⌜ Relinked n child parent adding (now (rows .entry)) (now (rows .exit)) (now (closed .exit)) ⌝ }
+    requires { ⌜ (n ≤ 128) × (m ≤ 64) × (length (now rules) ≡ n * m) × (child < n) × (parent < n) × (length (now rows) ≡ 256) × (length (now order) ≡ 128) ⌝ }
+    ensures { λ _. ⌜ Relinked n m child parent adding (now (rules .entry)) (now (rows .entry)) (now (rows .exit)) (now (order .exit)) (now (reach .exit)) (now (ruled .exit)) ⌝ }
 {
     if adding {
         mark(rows, child, parent);
     } else {
         unmark(rows, child, parent);
     }
-    *closed = *rows;
-    close(closed, n);
+    *reach = [0u64; 256];
+    *ruled = [0u64; 256];
+    if arrange(rows, n, order, reach) {
+        rule_rows(rules, n, m, order, ruled);
+    }
 }
 
 // The link between two kinds of the book is added or taken.
@@ -120,16 +130,51 @@ fn edit_link(
     let c = child.0 as usize;
     let p = parent.0 as usize;
     let mut rows = [0u64; 256];
-    let mut closed = [0u64; 256];
-    if !examine(kinds, marks, links, rules, entries, &mut rows, &mut closed) {
+    let mut order = [0u8; 128];
+    let mut reach = [0u64; 256];
+    let mut ruled = [0u64; 256];
+    let sound = examine(
+        kinds,
+        marks,
+        links,
+        rules,
+        entries,
+        &mut rows,
+        &mut order,
+        &mut reach,
+        &mut ruled,
+    );
+    if !sound {
         return Edited::Refused(Refusal::Unsound);
     }
-    match judge(&rows, &closed, c, p, adding) {
+    let at = next(&reach, c, 0);
+    match judge(&rows, &reach, c, p, at, adding) {
         Verdict::Refused(why) => Edited::Refused(why),
         Verdict::Allowed => {
             links[c * kinds + p] = adding as u8;
-            relink(&mut rows, &mut closed, kinds, c, p, adding);
-            let count = resettle_link(&rows, &closed, kinds, marks, c, rules, entries);
+            relink(
+                kinds,
+                marks,
+                rules,
+                &mut rows,
+                &mut order,
+                &mut reach,
+                &mut ruled,
+                c,
+                p,
+                adding,
+            );
+            let count = resettle_link(
+                &rows,
+                &order,
+                &reach,
+                &ruled,
+                kinds,
+                marks,
+                c,
+                rules,
+                entries,
+            );
             count_edit(tally);
             Edited::Done(count)
         }

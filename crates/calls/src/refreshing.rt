@@ -50,13 +50,22 @@ pub fn refresh(
         return Edited::Refused(Refusal::Shape);
     }
     let mut rows = [0u64; 256];
-    let mut closed = [0u64; 256];
-    let linked = examine_links(n as usize, links, &mut rows, &mut closed);
+    let mut order = [0u8; 128];
+    let mut reach = [0u64; 256];
+    let linked = examine_links(n as usize, links, &mut rows, &mut order, &mut reach);
     if !linked {
         return Edited::Refused(Refusal::Unsound);
     }
     let mut scratch = [0u16; 8192];
     let lookups = &mut scratch[..entries.len()];
-    gather(&rows, &closed, n as usize, m as usize, rules, lookups);
+    gather(
+        &rows,
+        &order,
+        &reach,
+        n as usize,
+        m as usize,
+        rules,
+        lookups,
+    );
     Edited::Done(replace(entries, lookups))
 }

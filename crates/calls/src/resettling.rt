@@ -5,11 +5,10 @@ use relation::turn;
 use settling::settle;
 ghost use mathlib.Core.Bool.{false};
 ghost use Prim.Native.Nat.{_+_, _<_};
-ghost use Rattle.inheritance.specs.Above.{Acyclic};
 ghost use Rattle.propagation.specs.Spread.{stop};
 ghost use Rattle.relation.specs.Bit.{bit};
-ghost use Rattle.relation.specs.Closed.{Closed};
-ghost use Rattle.settling.specs.Row.{Sized, Marks};
+ghost use Rattle.deciding.specs.Deciding.{Prepared};
+ghost use Rattle.settling.specs.Merged.{Sized, Marks};
 ghost use Rattle.settling.specs.Settled.{Settled};
 ghost use Rattle.tables.specs.Tables.{ownOf};
 ghost use Rattle.calls.specs.Edits.{Untouched};
@@ -18,7 +17,9 @@ ghost use Rattle.calls.specs.Edits.{Untouched};
 // the stops. How many were others.
 fn resettle(
     rows: &[u64; 256],
-    closed: &[u64; 256],
+    order: &[u8; 128],
+    reach: &[u64; 256],
+    ruled: &[u64; 256],
     n: usize,
     m: usize,
     lo: usize,
@@ -29,7 +30,7 @@ fn resettle(
     entries: &mut [u16],
 ) -> u16
     requires { ⌜ (Sized n m (now rules) (now entries)) × (Marks m lo hi) × (e < n) ⌝ }
-    requires { ⌜ (Closed n n (now rows) (now closed)) × (Acyclic n (bit (now rows))) ⌝ }
+    requires { ⌜ Prepared n m (now rows) (now rules) (now order) (now reach) (now ruled) ⌝ }
     requires { ⌜ Untouched n m lo hi (bit (now rows)) (stop (now stops)) e (now rules) (now entries) ⌝ }
     ensures { λ k. ⌜ Settled n m lo hi (bit (now (rows .entry))) (now (rules .entry)) (now (entries .entry)) (now (entries .exit)) k ⌝ }
 {
@@ -37,13 +38,27 @@ fn resettle(
     turn(rows, n, &mut children);
     let mut visited = [0u8; 128];
     touched(&children, n, stops, e, &mut visited);
-    settle(rows, closed, n, m, lo, hi, &visited, rules, entries)
+    settle(
+        rows,
+        order,
+        reach,
+        ruled,
+        n,
+        m,
+        lo,
+        hi,
+        &visited,
+        rules,
+        entries,
+    )
 }
 
 // The same after a change of the rule of a kind for a mark: no other mark is touched, and an own rule stops it.
 pub fn resettle_rule(
     rows: &[u64; 256],
-    closed: &[u64; 256],
+    order: &[u8; 128],
+    reach: &[u64; 256],
+    ruled: &[u64; 256],
     n: usize,
     m: usize,
     kind: usize,
@@ -52,7 +67,7 @@ pub fn resettle_rule(
     entries: &mut [u16],
 ) -> u16
     requires { ⌜ (Sized n m (now rules) (now entries)) × (kind < n) × (mark < m) ⌝ }
-    requires { ⌜ (Closed n n (now rows) (now closed)) × (Acyclic n (bit (now rows))) ⌝ }
+    requires { ⌜ Prepared n m (now rows) (now rules) (now order) (now reach) (now ruled) ⌝ }
     requires { ⌜ Untouched n m mark (mark + 1) (bit (now rows)) (ownOf m (now rules) mark) kind (now rules) (now entries) ⌝ }
     ensures { λ k. ⌜ Settled n m mark (mark + 1) (bit (now (rows .entry))) (now (rules .entry)) (now (entries .entry)) (now (entries .exit)) k ⌝ }
 {
@@ -60,7 +75,9 @@ pub fn resettle_rule(
     own_rules(rules, n, m, mark, &mut stops);
     resettle(
         rows,
-        closed,
+        order,
+        reach,
+        ruled,
         n,
         m,
         mark,
@@ -75,7 +92,9 @@ pub fn resettle_rule(
 // The same after a change of a link of a child: every mark is worked out, at every kind below the child.
 pub fn resettle_link(
     rows: &[u64; 256],
-    closed: &[u64; 256],
+    order: &[u8; 128],
+    reach: &[u64; 256],
+    ruled: &[u64; 256],
     n: usize,
     m: usize,
     child: usize,
@@ -83,10 +102,23 @@ pub fn resettle_link(
     entries: &mut [u16],
 ) -> u16
     requires { ⌜ (Sized n m (now rules) (now entries)) × (child < n) ⌝ }
-    requires { ⌜ (Closed n n (now rows) (now closed)) × (Acyclic n (bit (now rows))) ⌝ }
+    requires { ⌜ Prepared n m (now rows) (now rules) (now order) (now reach) (now ruled) ⌝ }
     requires { ⌜ Untouched n m 0 m (bit (now rows)) (λ _. false) child (now rules) (now entries) ⌝ }
     ensures { λ k. ⌜ Settled n m 0 m (bit (now (rows .entry))) (now (rules .entry)) (now (entries .entry)) (now (entries .exit)) k ⌝ }
 {
     let stops = [0u8; 128];
-    resettle(rows, closed, n, m, 0, m, &stops, child, rules, entries)
+    resettle(
+        rows,
+        order,
+        reach,
+        ruled,
+        n,
+        m,
+        0,
+        m,
+        &stops,
+        child,
+        rules,
+        entries,
+    )
 }

@@ -3,17 +3,34 @@ use crate::resettling::resettle_rule;
 use crate::tallying::count_edit;
 use inheritance::Kind;
 use inheritance::Mark;
+use relation::mark;
+use relation::next;
+use relation::unmark;
 use settling::examine;
 use tables::Asked;
 use tables::Edited;
 use tables::Refusal;
 ghost use mathlib.Core.Path.{_≡_};
-ghost use mathlib.Core.Bool.{true};
+ghost use mathlib.Core.Bool.{true, not};
 ghost use Prim.Native.Nat.{_<_};
+ghost use lib.Dec.{eqb};
+ghost use lib.ListN.{length};
 ghost use Rattle.tables.specs.Calls.{leaves, addRule, takeRule};
 ghost use Rattle.tables.specs.Reply.{edited};
 ghost use Rattle.tables.specs.Tables.{lent, shaped};
-ghost use Rattle.calls.specs.Edits.{ruleEdit};
+ghost use Rattle.calls.specs.Edits.{ruleEdit, Reset};
+
+// The kind at place i is put among the rule kinds of mark j, or taken out where the handling is 0.
+fn rerule(ruled: &mut [u64; 256], j: usize, i: usize, handling: u16)
+    requires { ⌜ (j < 128) × (i < 128) × (length (now ruled) ≡ 256) ⌝ }
+    ensures { λ _. ⌜ Reset j i (not (eqb handling 0)) (now (ruled .entry)) (now (ruled .exit)) ⌝ }
+{
+    if handling == 0 {
+        unmark(ruled, j, i);
+    } else {
+        mark(ruled, j, i);
+    }
+}
 
 // The rule of a kind of the book for a mark of it is set, and a handling of 0 takes it.
 fn edit_rule(
@@ -34,8 +51,21 @@ fn edit_rule(
     let kinds = n as usize;
     let marks = m as usize;
     let mut rows = [0u64; 256];
-    let mut closed = [0u64; 256];
-    if !examine(kinds, marks, links, rules, entries, &mut rows, &mut closed) {
+    let mut order = [0u8; 128];
+    let mut reach = [0u64; 256];
+    let mut ruled = [0u64; 256];
+    let sound = examine(
+        kinds,
+        marks,
+        links,
+        rules,
+        entries,
+        &mut rows,
+        &mut order,
+        &mut reach,
+        &mut ruled,
+    );
+    if !sound {
         return Edited::Refused(Refusal::Unsound);
     }
     let i = tables::place(kind, mark, m);
@@ -45,7 +75,19 @@ fn edit_rule(
     rules[i] = handling;
     let k = kind.0 as usize;
     let j = mark.0 as usize;
-    let count = resettle_rule(&rows, &closed, kinds, marks, k, j, rules, entries);
+    rerule(&mut ruled, j, next(&reach, k, 0), handling);
+    let count = resettle_rule(
+        &rows,
+        &order,
+        &reach,
+        &ruled,
+        kinds,
+        marks,
+        k,
+        j,
+        rules,
+        entries,
+    );
     count_edit(tally);
     Edited::Done(count)
 }

@@ -2,14 +2,16 @@
 --     chain-above, above-chain          the test and the chains agree
 --     link-above, above-trans           a direct parent is above; what is above a kind above c is above c
 --     above-same                        links that agree below n have the same kinds above each other
---     chain-trans                       two chains joined
+--     upto-dec                          whether p is c or above it
+--     chain-trans                       two chains joined; upto-step, upto-chain: the same where the first may have no link
 --     count-le, count-lt                a test that passes more has the larger count
 --     count-in, count-out, count-same   one more that passes, or does not; tests that agree
 --     rank-le                           at most n kinds are above c
---     rank-lt, rank-falls               where no kind is above itself: fewer than n, and fewer at each parent
+--     rank-lt, rank-falls, chain-falls  where no kind is above itself: fewer than n, and fewer at each parent and along each chain
 --     by-parents                        there, what is so of a kind wherever it is so of its parents is so of every kind
 --     no-chain, chainless-acyclic       no kind is above itself just where no chain leads from a kind to itself
 --     fewer-chain, fewer-acyclic        with fewer links: each chain was there before, and still no kind is above itself
+--     SameBut, old-or-new               one link is changed: each link was there before, or is that one
 --     unlink-fewer, unlink-acyclic      one link is removed: there are fewer, and still no kind is above itself
 --     link-acyclic                      one link is added, whose child is neither its parent nor above its parent
 -- Assumes nothing.
@@ -21,13 +23,13 @@ use native.Mathlib.Nat.{add-zero, le-refl, le-of-suc-le-suc, not-suc-le-zero, eq
 use native.Mathlib.Decide.{ℕ-discrete}
 use native.Mathlib.Numerals.{add-one}
 use native.Mathlib.Omega.{arith}
-use Rattle.inheritance.specs.Above.{Chain, link, step, through, above, Acyclic, bit, count, rank}
+use Rattle.inheritance.specs.Above.{Chain, link, step, Upto, through, above, Acyclic, bit, count, rank}
 
-or-cases : (a b : Bool) → (a || b) ≡ true → (a ≡ true) ⊎ (b ≡ true)
+pub or-cases : (a b : Bool) → (a || b) ≡ true → (a ≡ true) ⊎ (b ≡ true)
 or-cases true b e = inl refl
 or-cases false b e = inr e
 
-lt-suc-cases : {j k : ℕ} → j < suc k → (j ≡ k) ⊎ (j < k)
+pub lt-suc-cases : {j k : ℕ} → j < suc k → (j ≡ k) ⊎ (j < k)
 lt-suc-cases l = eq-or-lt-of-le (le-of-suc-le-suc l)
 
 -- ---- `through` is transitive at each kind below k
@@ -163,6 +165,14 @@ module _ (n : ℕ) (up : ℕ → ℕ → Bool) where
   unfolding rank
   rank-le c = omega (arith, count-le (above n up c) always n (λ k l e. refl), count-always n)
 
+  pub upto-dec : (c p : ℕ) → p < n → Dec (Upto n up c p)
+  upto-dec c p l = go (ℕ-discrete c p) (above n up c p) refl
+    where
+      go : Dec (c ≡ p) → (b : Bool) → above n up c p ≡ b → Dec (Upto n up c p)
+      go (yes e) b a = yes (inl e)
+      go (no e) true a = yes (inr (above-chain n up c p l a))
+      go (no e) false a = no (⊎-elim e (λ r. true≢false (sym (chain-above n up r) ∙ a)))
+
   pub chainless-acyclic : ((c : ℕ) → c < n → Chain n up c c → ⊥) → Acyclic n up
   chainless-acyclic none c l = not-eq-not {b = false} .0 (λ e. none c l (above-chain n up c c l e))
 
@@ -182,6 +192,10 @@ module _ (n : ℕ) (up : ℕ → ℕ → Bool) where
     rank-falls c p l e =
         let cp : above n up c p ≡ true = link-above n up c p e in
         count-lt (above n up p) (above n up c) n (λ k m. above-trans n up c p k l cp) p l (acyclic p l) cp
+
+    pub chain-falls : {c p : ℕ} → Chain n up c p → rank n up p < rank n up c
+    chain-falls (link l u) = rank-falls _ _ l u
+    chain-falls (step l u r) = omega (arith, rank-falls _ _ l u, chain-falls r)
 
     module _ (P : ℕ → Type 0) (one : (c : ℕ) → c < n → ((p : ℕ) → p < n → up c p ≡ true → P p) → P c) where
       by-rank : (d c : ℕ) → c < n → rank n up c < d → P c
@@ -207,14 +221,14 @@ module _ (n : ℕ) (up up′ : ℕ → ℕ → Bool) (had : (c p : ℕ) → c < 
 abbrev pub SameBut : ℕ → (up up′ : ℕ → ℕ → Bool) → ℕ → ℕ → Type 0
 SameBut n up up′ c₀ p₀ = (c p : ℕ) → c < n → p < n → ((c ≡ c₀) × (p ≡ p₀) → ⊥) → up′ c p ≡ up c p
 
--- p is c or above it
-abbrev Upto : ℕ → (ℕ → ℕ → Bool) → ℕ → ℕ → Type 0
-Upto n up c p = (c ≡ p) ⊎ Chain n up c p
-
 module _ (n : ℕ) (up : ℕ → ℕ → Bool) where
-  upto-step : {c q p : ℕ} → q < n → up c q ≡ true → Upto n up q p → Chain n up c p
+  pub upto-step : {c q p : ℕ} → q < n → up c q ≡ true → Upto n up q p → Chain n up c p
   upto-step l e (inl h) = rw (← h) (link l e)
   upto-step l e (inr s) = step l e s
+
+  pub upto-chain : {c q p : ℕ} → Upto n up c q → Chain n up q p → Chain n up c p
+  upto-chain (inl e) r = rw e r
+  upto-chain (inr t) r = chain-trans n up t r
 
   upto-trans : {c q p : ℕ} → Upto n up c q → Upto n up q p → Upto n up c p
   upto-trans (inl h) s = rw h s
@@ -222,7 +236,7 @@ module _ (n : ℕ) (up : ℕ → ℕ → Bool) where
   upto-trans (inr r) (inr s) = inr (chain-trans n up r s)
 
 module _ (n : ℕ) (up up′ : ℕ → ℕ → Bool) (c₀ p₀ : ℕ) (same : SameBut n up up′ c₀ p₀) where
-  old-or-new : (c p : ℕ) → c < n → p < n → up′ c p ≡ true → (up c p ≡ true) ⊎ ((c ≡ c₀) × (p ≡ p₀))
+  pub old-or-new : (c p : ℕ) → c < n → p < n → up′ c p ≡ true → (up c p ≡ true) ⊎ ((c ≡ c₀) × (p ≡ p₀))
   old-or-new c p l m e = go (ℕ-discrete c c₀) (ℕ-discrete p p₀)
     where
       go : Dec (c ≡ c₀) → Dec (p ≡ p₀) → (up c p ≡ true) ⊎ ((c ≡ c₀) × (p ≡ p₀))

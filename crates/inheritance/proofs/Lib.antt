@@ -1,7 +1,9 @@
 -- The laws of inheritance, in the order in which they build on each other.
 pub mod AboveLaws
-pub mod CollectLaws
 pub mod MeetLaws
+pub mod LeftLaws
+pub mod DecideLaws
+pub mod NearLaws
 pub mod LookupLaws
-pub mod SeenLaws
+pub mod StepLaws
 pub mod TouchLaws

@@ -1,20 +1,52 @@
--- The left fold over the parents that the code computes is `settle` of what is collected.
+-- Lookups compared, and what the lookups of the direct parents share.
+--     same-true, same-refl, Lookup-discrete    `same` decides equality
 --     join-none, join-same, join-differ        one more parent: the first that is no none, one more of the same, a different one
---     meet-settle                              the fold is `settle` of `collect`
---     meet-keeps                               what holds of none, of a dispute at c and of each parent's lookup holds of the fold
+--     meet-cases                               all that are no none share one lookup, or two of them differ and it is a dispute at c
+--     meet-shared                              the former, from the lookups of the parents
+--     meet-keeps                               what holds of none, of a dispute at c and of each parent's lookup holds of what they share
+--     meet-same, given-same, given-none        kinds that give the same: parents with the same lookup, or none
 -- Assumes nothing.
-use mathlib.Core.Path.{_≡_, refl, sym, _∙_, ap}
-use mathlib.Core.Bool.{Bool, true, false, _&&_, and-true, and-assoc}
-use mathlib.Core.List.{List, [], _∷_, _++_, append-nil}
-use mathlib.Core.Logic.{_≢_}
+use mathlib.Core.Path.{_≡_, refl, sym, _∙_, ap, ap₂, subst}
+use mathlib.Core.Bool.{Bool, true, false, true≢false, false≢true, not-eq-not}
+use mathlib.Core.Logic.{_≢_, _⊎_, inl, inr, ⊎-elim}
 use Prim.Native.Nat.{ℕ, zero, suc, _<_}
+use native.Mathlib.Nat.{not-suc-le-zero}
 use native.Mathlib.Omega.{arith}
+use borrow.Author.Tests.{eqb-true, eq-eqb}
 use Rattle.inheritance.specs.declared.Lookup.{Lookup}
 use Rattle.inheritance.specs.declared.Lookup.the-variants.{None, Rule, Dispute}
 use Rattle.inheritance.specs.Checked.{kind}
-use Rattle.inheritance.specs.Lookup.{same, kept, collect, all-same, settle}
-use Rattle.inheritance.specs.Meet.{or-dispute, join, meet}
-use Rattle.inheritance.proofs.CollectLaws.{same-refl, added}
+use Rattle.inheritance.specs.Lookup.{same, or-dispute, join, meet}
+use Rattle.inheritance.proofs.AboveLaws.{lt-suc-cases}
+
+pub same-true : (v w : Lookup) → same v w ≡ true → v ≡ w
+same-true None None e = refl
+same-true None (Rule k) e = absurd (false≢true e)
+same-true None (Dispute k) e = absurd (false≢true e)
+same-true (Rule j) None e = absurd (false≢true e)
+same-true (Rule j) (Rule k) e = ap (λ (m : ℕ). Rule (kind m)) (eqb-true (j .0) (k .0) e)
+same-true (Rule j) (Dispute k) e = absurd (false≢true e)
+same-true (Dispute j) None e = absurd (false≢true e)
+same-true (Dispute j) (Rule k) e = absurd (false≢true e)
+same-true (Dispute j) (Dispute k) e = ap (λ (m : ℕ). Dispute (kind m)) (eqb-true (j .0) (k .0) e)
+
+pub same-refl : (v : Lookup) → same v v ≡ true
+same-refl None = refl
+same-refl (Rule k) = eq-eqb (k .0) (k .0) refl
+same-refl (Dispute k) = eq-eqb (k .0) (k .0) refl
+
+pub Lookup-discrete : Discrete Lookup
+Lookup-discrete v w = decide (same v w) refl
+  where
+    decide : (b : Bool) → same v w ≡ b → Dec (v ≡ w)
+    decide true e = yes (same-true v w e)
+    decide false e = no (λ p. true≢false (sym (same-refl v) ∙ ap (same v) p ∙ e))
+
+-- ---- one more parent
+
+join-passes : (c : ℕ) (v : Lookup) → join c v None ≡ v
+unfolding join
+join-passes c v = refl
 
 pub join-none : (c : ℕ) (w : Lookup) → join c None w ≡ w
 unfolding join
@@ -38,107 +70,130 @@ join-differ c (Rule j) (Dispute k) hv hw d = refl
 join-differ c (Dispute j) (Rule k) hv hw d = refl
 join-differ c (Dispute j) (Dispute k) hv hw d = ap (λ (b : Bool). or-dispute c b (Dispute j)) d
 
--- v is no none. A collected list starts so: after a none at its head `settle` would take another lookup for a difference
-abbrev Held : Lookup → Type 0
-Held None = ⊥
-Held (Rule k) = Unit {0}
-Held (Dispute k) = Unit {0}
+-- ---- all the parents
 
-abbrev Starts-held : List Lookup → Type 0
-Starts-held [] = Unit {0}
-Starts-held (v ∷ vs) = Held v
+module _ (c : ℕ) (parent : ℕ → Bool) (at : ℕ → Lookup) where
+  -- p is a parent below k whose lookup is not none
+  abbrev pub Held : ℕ → ℕ → Type 0
+  Held k p = (p < k) × (parent p ≡ true) × (at p ≢ None)
 
-kept-starts-held : (v : Lookup) → Starts-held (kept v)
-kept-starts-held None = tt
-kept-starts-held (Rule k) = tt
-kept-starts-held (Dispute k) = tt
+  -- each of these has v; and there is one, unless v is none
+  pub record Shared (k : ℕ) (v : Lookup) : Type 0 where
+    pub all : (p : ℕ) → Held k p → at p ≡ v
+    pub one : (v ≡ None) ⊎ ((p : ℕ) × Held k p)
 
-append-starts-held : (vs ws : List Lookup) → Starts-held vs → Starts-held ws → Starts-held (vs ++ ws)
-append-starts-held [] ws hv hw = hw
-append-starts-held (v ∷ vs) ws hv hw = hv
+  -- two of these differ, and v is a dispute at c
+  pub record Differ (k : ℕ) (v : Lookup) : Type 0 where
+    pub at-c : v ≡ Dispute (kind c)
+    pub p : ℕ
+    pub q : ℕ
+    pub p-held : Held k p
+    pub q-held : Held k q
+    pub apart : at p ≢ at q
 
-collect-starts-held : (parent : ℕ → Bool) (at : ℕ → Lookup) (k : ℕ) → Starts-held (collect parent at k)
-unfolding collect
-collect-starts-held parent at zero = tt
-collect-starts-held parent at (suc k) = append-starts-held (collect parent at k) _ (collect-starts-held parent at k) (last (parent k))
-  where
-    last : (b : Bool) → Starts-held (added b (at k))
-    last true = kept-starts-held (at k)
-    last false = tt
+  wider : {k p : ℕ} → Held k p → Held (suc k) p
+  wider (l, u, some) = (omega arith, u, some)
 
-dispute-stays : (c : ℕ) (b : Bool) → or-dispute c b (Dispute (kind c)) ≡ Dispute (kind c)
-dispute-stays c true = refl
-dispute-stays c false = refl
+  -- of a parent below k + 1: it is k, or below k
+  at-last : {k : ℕ} (P : ℕ → Type 0) → (Held (suc k) k → P k) → ((p : ℕ) → Held k p → P p) → (p : ℕ) → Held (suc k) p → P p
+  at-last {k} P last before p (l, u, some) =
+      ⊎-elim (λ q. subst P (sym q) (last (subst (Held (suc k)) q (l, u, some)))) (λ m. before p (m, u, some)) (lt-suc-cases l)
 
-join-dispute : (c : ℕ) (w : Lookup) → join c (Dispute (kind c)) w ≡ Dispute (kind c)
-unfolding join
-join-dispute c None = refl
-join-dispute c (Rule k) = refl
-join-dispute c (Dispute k) = dispute-stays c (same (Dispute (kind c)) (Dispute k))
+  shared-more : {k : ℕ} {v : Lookup} → Shared k v → (Held (suc k) k → at k ≡ v) → Shared (suc k) v
+  shared-more {k} {v} s last = record { all = at-last (λ p. at p ≡ v) last (s .all); one = ⊎-elim inl (λ (p, h). inr (p, wider h)) (s .one) }
 
-join-held : (c : ℕ) (v w : Lookup) → Held v → Held w → join c v w ≡ or-dispute c (same v w) v
-unfolding join
-join-held c v None hv hw = absurd hw
-join-held c None (Rule k) hv hw = absurd hv
-join-held c None (Dispute k) hv hw = absurd hv
-join-held c (Rule j) (Rule k) hv hw = refl
-join-held c (Rule j) (Dispute k) hv hw = refl
-join-held c (Dispute j) (Rule k) hv hw = refl
-join-held c (Dispute j) (Dispute k) hv hw = refl
+  differ-more : {k : ℕ} {v : Lookup} → Differ k v → Differ (suc k) v
+  differ-more d = record { at-c = d .at-c; p = d .p; q = d .q; p-held = wider (d .p-held); q-held = wider (d .q-held); apart = d .apart }
 
-join-or-dispute : (c : ℕ) (b : Bool) (v w : Lookup) → Held v → Held w → join c (or-dispute c b v) w ≡ or-dispute c (b && same v w) v
-join-or-dispute c true v w hv hw = join-held c v w hv hw
-join-or-dispute c false v w hv hw = join-dispute c w
+  abbrev Cases : ℕ → Lookup → Type 0
+  Cases k v = Shared k v ⊎ Differ k v
 
-all-same-append : (v : Lookup) (vs : List Lookup) (w : Lookup) → all-same v (vs ++ (w ∷ [])) ≡ (all-same v vs && same v w)
-all-same-append v [] w = and-true (same v w)
-all-same-append v (u ∷ vs) w = ap (λ (b : Bool). same v u && b) (all-same-append v vs w) ∙ sym (and-assoc (same v u) (all-same v vs) (same v w))
+  none-no-dispute : {v : Lookup} → v ≡ None → v ≡ Dispute (kind c) → ⊥
+  none-no-dispute none dispute = let z : _≡_ {A = ℕ} 0 1 = cc in omega arith
 
-settle-append : (c : ℕ) (v : Lookup) (vs : List Lookup) (w : Lookup) → Held v → Held w → settle c (v ∷ (vs ++ (w ∷ []))) ≡ join c (settle c (v ∷ vs)) w
-unfolding settle
-settle-append c v vs w hv hw = ap (λ (b : Bool). or-dispute c b v) (all-same-append v vs w) ∙ sym (join-or-dispute c (all-same v vs) v w hv hw)
-
-settle-join : (c : ℕ) (vs : List Lookup) (w : Lookup) → Starts-held vs → settle c (vs ++ kept w) ≡ join c (settle c vs) w
-unfolding join settle
-settle-join c vs None h = ap (settle c) (append-nil vs)
-settle-join c [] (Rule k) h = refl
-settle-join c [] (Dispute k) h = refl
-settle-join c (v ∷ vs) (Rule k) h = settle-append c v vs (Rule k) h tt
-settle-join c (v ∷ vs) (Dispute k) h = settle-append c v vs (Dispute k) h tt
-
-pub meet-settle : (c : ℕ) (parent : ℕ → Bool) (at : ℕ → Lookup) (k : ℕ) → meet c parent at k ≡ settle c (collect parent at k)
-unfolding meet collect settle
-meet-settle c parent at zero = refl
-meet-settle c parent at (suc k) = last (parent k) (meet-settle c parent at k)
-  where
-    last :
-        (b : Bool) → meet c parent at k ≡ settle c (collect parent at k)
-        → _≡_ {A = Lookup} (elim b [ true ↦ join c (meet c parent at k) (at k) | false ↦ meet c parent at k ])
-        (settle c (collect parent at k ++ added b (at k)))
-    last true e = ap (λ (v : Lookup). join c v (at k)) e ∙ sym (settle-join c (collect parent at k) (at k) (collect-starts-held parent at k))
-    last false e = e ∙ sym (ap (settle c) (append-nil (collect parent at k)))
-
--- what holds of none, of a dispute at c and of each parent's lookup holds of the fold
-module _ (P : Lookup → Type 0) (c : ℕ) (of-none : P None) (of-dispute : P (Dispute (kind c))) where
-  or-dispute-keeps : (b : Bool) (v : Lookup) → P v → P (or-dispute c b v)
-  or-dispute-keeps true v h = h
-  or-dispute-keeps false v h = of-dispute
-
-  pub join-keeps : (v w : Lookup) → P v → P w → P (join c v w)
-  unfolding join
-  join-keeps v None hv hw = hv
-  join-keeps None (Rule k) hv hw = hw
-  join-keeps None (Dispute k) hv hw = hw
-  join-keeps (Rule j) (Rule k) hv hw = or-dispute-keeps (same (Rule j) (Rule k)) (Rule j) hv
-  join-keeps (Rule j) (Dispute k) hv hw = of-dispute
-  join-keeps (Dispute j) (Rule k) hv hw = of-dispute
-  join-keeps (Dispute j) (Dispute k) hv hw = or-dispute-keeps (same (Dispute j) (Dispute k)) (Dispute j) hv
-
-  pub meet-keeps : (parent : ℕ → Bool) (at : ℕ → Lookup) (m : ℕ) → ((k : ℕ) → k < m → parent k ≡ true → P (at k)) → P (meet c parent at m)
-  unfolding meet
-  meet-keeps parent at zero h = of-none
-  meet-keeps parent at (suc k) h = last (parent k) refl (meet-keeps parent at k (λ j l. h j (omega arith)))
+  joined : {k : ℕ} (v : Lookup) → parent k ≡ true → Cases k v → Cases (suc k) (join c v (at k))
+  joined {k} v u = go (Lookup-discrete (at k) None) (Lookup-discrete v None) (Lookup-discrete v (at k))
     where
-      last : (b : Bool) → parent k ≡ b → P (meet c parent at k) → P (elim b [ true ↦ join c (meet c parent at k) (at k) | false ↦ meet c parent at k ])
-      last true e before = join-keeps (meet c parent at k) (at k) before (h k (omega arith) e)
-      last false e before = before
+      -- a second that is held, and what is shared so far
+      split : at k ≢ None → v ≢ None → v ≢ at k → Cases k v → Differ (suc k) (Dispute (kind c))
+      split some held ne (inl s) = ⊎-elim (λ none. absurd (held none))
+          (λ (p, h). record { at-c = refl; p = p; q = k; p-held = wider h; q-held = (omega arith, u, some); apart = λ e. ne (sym (s .all p h) ∙ e) }) (s .one)
+      split some held ne (inr d) = rw (← d .at-c) (differ-more d)
+
+      go : Dec (at k ≡ None) → Dec (v ≡ None) → Dec (v ≡ at k) → Cases k v → Cases (suc k) (join c v (at k))
+      go (yes e) dv dw before =
+          subst (Cases (suc k)) (sym (ap (join c v) e ∙ join-passes c v))
+          (⊎-elim (λ s. inl (shared-more s (λ h. absurd (h .2 e)))) (λ d. inr (differ-more d)) before)
+      go (no some) (yes e) dw (inl s) =
+          subst (Cases (suc k)) (sym (ap (λ x. join c x (at k)) e ∙ join-none c (at k)))
+          (inl record { all = at-last (λ p. at p ≡ at k) (λ _. refl) (λ p h. absurd (h .2 (s .all p h ∙ e))); one = inr (k, (omega arith, u, some)) })
+      go (no some) (yes e) dw (inr d) = absurd (none-no-dispute e (d .at-c))
+      go (no some) (no held) (yes e) before =
+          subst (Cases (suc k)) (sym (ap (join c v) (sym e) ∙ join-same c v))
+          (⊎-elim (λ s. inl (shared-more s (λ _. sym e))) (λ d. inr (differ-more d)) before)
+      go (no some) (no held) (no ne) before =
+          subst (Cases (suc k)) (sym (join-differ c v (at k) held some (not-eq-not {b = false} .0 (λ t. ne (same-true v (at k) t)))))
+          (inr (split some held ne before))
+
+  pub meet-cases : (k : ℕ) → Shared k (meet c parent at k) ⊎ Differ k (meet c parent at k)
+  unfolding meet
+  meet-cases zero = inl record { all = λ p h. absurd (not-suc-le-zero (h .0)); one = inl refl }
+  meet-cases (suc k) = last (parent k) refl (meet-cases k)
+    where
+      last : (b : Bool) → parent k ≡ b → Cases k (meet c parent at k)
+          → Cases (suc k) (elim b [ true ↦ join c (meet c parent at k) (at k) | false ↦ meet c parent at k ])
+      last true u before = joined (meet c parent at k) u before
+      last false u before = ⊎-elim (λ s. inl (shared-more s (λ h. absurd (true≢false (sym (h .1) ∙ u))))) (λ d. inr (differ-more d)) before
+
+  pub meet-shared : (k : ℕ) (v : Lookup) → ((p : ℕ) → Held k p → at p ≡ v) → (p : ℕ) → Held k p → meet c parent at k ≡ v
+  meet-shared k v all p h =
+      ⊎-elim (λ s. sym (s .all p h) ∙ all p h) (λ d. absurd (d .apart (all (d .p) (d .p-held) ∙ sym (all (d .q) (d .q-held))))) (meet-cases k)
+
+-- what holds of none, of a dispute at c and of each parent's lookup holds of what they share
+module _ (P : Lookup → Type 0) (c : ℕ) (of-none : P None) (of-dispute : P (Dispute (kind c))) where
+  pub meet-keeps : (parent : ℕ → Bool) (at : ℕ → Lookup) (k : ℕ) → ((p : ℕ) → p < k → parent p ≡ true → P (at p)) → P (meet c parent at k)
+  meet-keeps parent at k of-parents =
+      ⊎-elim
+      (λ s. ⊎-elim (λ none. subst P (sym none) of-none) (λ (p, h). subst P (s .all p h) (of-parents p (h .0) (h .1))) (s .one))
+      (λ d. subst P (sym (d .at-c)) of-dispute) (meet-cases c parent at k)
+
+-- ---- kinds that give the same
+
+-- what a kind with lookup v gives, where b says whether it is a parent
+abbrev pub given : Bool → Lookup → Lookup
+given b v = elim b [ true ↦ v | false ↦ None ]
+
+pub given-none : (b : Bool) {v : Lookup} → v ≡ None → given b v ≡ None
+given-none true none = none
+given-none false none = refl
+
+pub given-same : (b : Bool) {b′ : Bool} (v v′ : Lookup) → b ≡ b′ → (b ≡ true → v ≡ v′) → given b v ≡ given b′ v′
+given-same b {b′} v v′ s f = go b f ∙ ap (λ (x : Bool). given x v′) s
+  where
+    go : (x : Bool) → (x ≡ true → v ≡ v′) → given x v ≡ given x v′
+    go true g = g refl
+    go false g = refl
+
+module _ (c : ℕ) where
+  meet-given : (parent : ℕ → Bool) (at : ℕ → Lookup) (k : ℕ) → meet c parent at (suc k) ≡ join c (meet c parent at k) (given (parent k) (at k))
+  unfolding meet
+  meet-given parent at k = go (parent k)
+    where
+      go : (b : Bool) → _≡_ {A = Lookup} (elim b [ true ↦ join c (meet c parent at k) (at k) | false ↦ meet c parent at k ])
+          (join c (meet c parent at k) (given b (at k)))
+      go true = refl
+      go false = sym (join-passes c (meet c parent at k))
+
+  meet-empty : (parent : ℕ → Bool) (at : ℕ → Lookup) → meet c parent at zero ≡ None
+  unfolding meet
+  meet-empty parent at = refl
+
+  pub meet-same :
+      (parent parent′ : ℕ → Bool) (at at′ : ℕ → Lookup) (k : ℕ)
+      → ((p : ℕ) → p < k → given (parent p) (at p) ≡ given (parent′ p) (at′ p))
+      → meet c parent at k ≡ meet c parent′ at′ k
+  meet-same parent parent′ at at′ zero f = meet-empty parent at ∙ sym (meet-empty parent′ at′)
+  meet-same parent parent′ at at′ (suc k) f =
+      meet-given parent at k
+      ∙ ap₂ (join c) (meet-same parent parent′ at at′ k (λ p l. f p (omega arith))) (f k (omega arith))
+      ∙ sym (meet-given parent′ at′ k)

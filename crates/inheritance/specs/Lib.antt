@@ -1,4 +1,4 @@
 pub mod Above
 pub mod Checked
 pub mod Lookup
-pub mod Meet
+pub mod Step

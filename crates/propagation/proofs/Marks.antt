@@ -13,7 +13,7 @@ use native.Mathlib.Decide.{ℕ-discrete}
 use native.Mathlib.Omega.{arith}
 use lib.ListN.{length, getD, set, replicate, length-replicate}
 use lib.Seq.{getD-set-same, getD-set-other}
-use Rattle.relation.proofs.Filling.{getD-zeros}
+use Rattle.relation.proofs.Zeros.{getD-zeros}
 use Rattle.propagation.specs.Spread.{Visited, Unvisited, Marks, unvisited, Ready}
 
 bit : (x : ℕ) → x < 2 → (x ≡ 1) ⊎ (x ≡ 0)

@@ -1,5 +1,5 @@
 -- The laws of `bit`, for stores that add bits or take them out.
---     on-or, on-without               bits added to a word, and taken out of it
+--     on-or, on-and, on-without       bits added to a word; those of two words; bits taken out of one
 --     or-into, without-into           the word i of the list, with v's bits added; without v's bits
 --     bit-or-into, bit-without-into   what a bit is after it
 --     bit-mark, bit-unmark            .. after one bit is added, or taken out: kind p, in row c
@@ -10,14 +10,14 @@ use mathlib.Core.Path.{_≡_, refl, sym, ap, ap₂, _∙_}
 use mathlib.Core.Logic.{_≢_}
 use mathlib.Core.Bool.{Bool, true, false, _&&_, _||_, not, xor}
 use mathlib.Core.List.{List}
-use Prim.Native.Nat.{ℕ, zero, suc, _+_, _-_, _*_, _/_, _%_, _^_, _<_, _≤_, max}
+use Prim.Native.Nat.{ℕ, zero, suc, _+_, _-_, _*_, _/_, _%_, _^_, _<_, _≤_, max, min}
 use native.Mathlib.Nat.{mul-add-mod-self-right, mul-mod-left, mod-eq-of-lt, div-eq-of-lt, div-self, pow-suc, one-mul, add-zero}
 use native.Mathlib.Omega.{arith}
 use borrow.Author.Tests.{ne-eqb, eqb-true, eqb-false, ltb-true, ltb-false}
 use lib.Dec.{eqb, ltb}
 use lib.ListN.{getD, set, length, length-set}
 use lib.Seq.{getD-set-same, getD-set-other}
-use lib.Bits.{bitAnd, bitOr, bitXor, differ, or-step, or-shr, xor-step, xor-shr, and-mask}
+use lib.Bits.{bitAnd, bitOr, bitXor, differ, or-step, or-shr, and-step, and-shr, xor-step, xor-shr, and-mask}
 use lib.Pow.{pow-pos, pow-lt, pow-add, shl-shr}
 use Rattle.relation.specs.Bit.{on, bit}
 use Rattle.relation.proofs.Bools.{or-false, and-true, same-bool, same-test, both-eqb, eqb-both}
@@ -52,6 +52,12 @@ pub on-or : (a b k : ℕ) → on (bitOr a b) k ≡ (on a k || on b k)
 on-or =
     on-op bitOr max _||_ or-step or-shr
     (by-digits (λ x y. (max x y < 2) × (eqb (max x y) 1 ≡ (eqb x 1 || eqb y 1)))
+    (omega arith, refl) (omega arith, refl) (omega arith, refl) (omega arith, refl))
+
+pub on-and : (a b k : ℕ) → on (bitAnd a b) k ≡ (on a k && on b k)
+on-and =
+    on-op bitAnd min _&&_ and-step and-shr
+    (by-digits (λ x y. (min x y < 2) × (eqb (min x y) 1 ≡ (eqb x 1 && eqb y 1)))
     (omega arith, refl) (omega arith, refl) (omega arith, refl) (omega arith, refl))
 
 on-xor : (a b k : ℕ) → on (bitXor a b) k ≡ xor (on a k) (on b k)
@@ -173,7 +179,7 @@ module _ (rows : List ℕ) (c p d q : ℕ) (l : length rows ≡ 256) (hc : c < 1
       ∙ ap (λ (t : Bool). bit rows d q && not t) (at-place c p d q hp hq)
 
 -- word j of row d, after words 0 and 1 of row k are added to those of row c
-two-words : (t : Bool) (rows : List ℕ) (c k d j r : ℕ) → j < 2
+pub two-words : (t : Bool) (rows : List ℕ) (c k d j r : ℕ) → j < 2
     → ((t || (eqb (2 * d + j) (2 * c) && on (getD rows (2 * k) 0) r)) || (eqb (2 * d + j) (2 * c + 1) && on (getD rows (2 * k + 1) 0) r))
     ≡ (t || (eqb d c && on (getD rows (2 * k + j) 0) r))
 two-words t rows c k d zero r h =

@@ -1,9 +1,9 @@
 -- What the proofs of several functions use.
 pub mod BitLaws
 pub mod Bools
-pub mod Filling
 pub mod Gathering
 pub mod Octets
 pub mod Turning
 pub mod Walking
 pub mod Warshall
+pub mod Zeros

@@ -1,45 +1,41 @@
--- Eight bytes at once: their bits in a byte, and that byte's bits in a row.
---     octet-none, octet-more     no byte yet; one more
+-- Eight tests at once: their bits in a byte, and that byte's bits in a row.
+--     octet-none, octet-more     no test yet; one more
 --     bit-octet                  what a bit is after an octet is added to a row
---     filled-octet               the rows while `load` goes through the bytes: one octet more
 -- Assumes nothing.
 use mathlib.Core.Path.{_≡_, refl, sym, ap, _∙_}
-use mathlib.Core.Logic.{by-cases}
 use mathlib.Core.Bool.{Bool, true, false, _&&_, _||_, true≢false}
 use mathlib.Core.List.{List}
 use Prim.Native.Nat.{ℕ, suc, _+_, _-_, _*_, _/_, _%_, _^_, _<_, _≤_, zero-le}
-use native.Mathlib.Nat.{mul-mod-left, div-eq-of-lt, pow-suc, le-refl, lt-of-lt-of-le, lt-of-not-le, mul-assoc, one-mul, zero-mul}
-use native.Mathlib.Decide.{decLt}
+use native.Mathlib.Nat.{mul-mod-left, div-eq-of-lt, pow-suc, lt-of-lt-of-le, lt-of-not-le, mul-assoc, one-mul, zero-mul}
 use native.Mathlib.Omega.{arith}
-use borrow.Author.Tests.{eq-eqb, eqb-true, lt-ltb, le-ltb, le-leb, lt-leb, leb-true, leb-false}
+use borrow.Author.Tests.{eq-eqb, eqb-true, le-leb, leb-true, leb-false, le-ltb}
 use mir.Val.{boolByte}
 use lib.Bits.{bitOr, or-lt}
-use lib.Dec.{eqb, ltb, leb}
-use lib.ListN.{getD, length}
+use lib.Dec.{eqb, leb}
+use lib.ListN.{length}
 use lib.Pow.{pow-mono, pow-add, shl-shr, shl-exact}
-use Rattle.relation.specs.Bit.{on, bit, Added}
-use Rattle.relation.specs.Loaded.{link, Filled, Octet, before}
-use Rattle.relation.proofs.Bools.{or-false, and-false, and-true, same-bool, both-true, one-more}
+use Rattle.relation.specs.Bit.{Octet, on, bit}
+use Rattle.relation.proofs.Bools.{and-false, and-true, same-bool, both-true, one-more}
 use Rattle.relation.proofs.BitLaws.{on-or, on-power, or-into, bit-or-into}
-use Rattle.relation.proofs.Filling.{on-zero}
+use Rattle.relation.proofs.Zeros.{on-zero}
 use Rattle.relation.proofs.Walking.{on-shifted}
 
 -- ---- one octet
 
 -- what the code adds for a byte: 2 ^ k where it is 1
-on-shown : (b : Bool) (k j : ℕ) → k < 8 → on ((boolByte b * 2 ^ k) % 2 ^ 8) j ≡ (eqb j k && b)
+pub on-shown : (b : Bool) (k j : ℕ) → k < 8 → on ((boolByte b * 2 ^ k) % 2 ^ 8) j ≡ (eqb j k && b)
 on-shown true k j h = ap (λ (x : ℕ). on x j) (shl-exact 1 k 8 (omega arith) (omega arith) ∙ one-mul (2 ^ k)) ∙ on-power k j ∙ sym (and-true (eqb j k))
 on-shown false k j h = ap (λ (x : ℕ). on (x % 2 ^ 8) j) (zero-mul (2 ^ k)) ∙ on-zero j ∙ sym (and-false (eqb j k))
 
-pub octet-none : (links : List ℕ) (i : ℕ) → Octet links i 0 0
-octet-none links i = record { small = omega arith; at = λ j. on-zero j ∙ sym (rw (le-ltb j 0 zero-le) refl) }
+module _ (f : ℕ → Bool) where
+  pub octet-none : Octet f 0 0
+  octet-none = record { small = omega arith; at = λ j. on-zero j ∙ sym (rw (le-ltb j 0 zero-le) refl) }
 
-pub octet-more : (links : List ℕ) (i k bits : ℕ) → k < 8 → Octet links i k bits
-    → Octet links i (k + 1) (bitOr bits ((boolByte (eqb (getD links (i + k) 0) 1) * 2 ^ k) % 2 ^ 8))
-octet-more links i k bits h o = record {
-  small = or-lt 8 bits _ (o .small) (omega arith);
-  at = λ j. on-or bits _ j ∙ rw (o .at j, on-shown _ k j h) (one-more (λ j. eqb (getD links (i + j) 0) 1) j k);
-}
+  pub octet-more : (k bits : ℕ) {b : Bool} → k < 8 → b ≡ f k → Octet f k bits → Octet f (k + 1) (bitOr bits ((boolByte b * 2 ^ k) % 2 ^ 8))
+  octet-more k bits {b} h e o = record {
+    small = or-lt 8 bits _ (o .small) (omega arith);
+    at = λ j. on-or bits _ j ∙ rw (o .at j, on-shown b k j h, e) (one-more f j k);
+  }
 
 -- ---- an octet in a row
 
@@ -51,7 +47,7 @@ on-below w m k =
     ∙ shl-shr (w * 2 ^ suc m) k ∙ ap (λ (x : ℕ). w * x) (pow-suc 2 m) ∙ sym (mul-assoc w (2 ^ m) 2))
     ∙ ap (λ (x : ℕ). eqb x 1) (mul-mod-left (w * 2 ^ m) 2)
 
-on-shl : (w s k : ℕ) → on (w * 2 ^ s) k ≡ (leb s k && on w (k - s))
+pub on-shl : (w s k : ℕ) → on (w * 2 ^ s) k ≡ (leb s k && on w (k - s))
 on-shl w s k = go (leb s k) refl
   where
     go : (t : Bool) → leb s k ≡ t → on (w * 2 ^ s) k ≡ (t && on w (k - s))
@@ -64,7 +60,7 @@ on-shl w s k = go (leb s k) refl
         let split : s ≡ suc (s - suc k) + k = omega arith in
         ap (λ (x : ℕ). on (w * 2 ^ x) k) split ∙ on-below w (s - suc k) k
 
-on-small : (w k : ℕ) → w < 256 → 8 ≤ k → on w k ≡ false
+pub on-small : (w k : ℕ) → w < 256 → 8 ≤ k → on w k ≡ false
 unfolding on
 on-small w k h l = ap (λ (x : ℕ). eqb (x % 2) 1) (div-eq-of-lt (lt-of-lt-of-le h (pow-mono l)))
 
@@ -108,29 +104,3 @@ bit-octet rows c q bits d p l hc hq hb hp =
     ∙ ap (λ (w : ℕ). bit rows d p || (eqb (2 * d + p / 64) (2 * c + q / 8) && on w (p % 64))) (shl-exact 8 (8 * (q % 8)) 64 hb (omega arith))
     ∙ ap (λ (t : Bool). bit rows d p || (eqb (2 * d + p / 64) (2 * c + q / 8) && t)) (on-shl bits (8 * (q % 8)) (p % 64))
     ∙ ap (λ (t : Bool). bit rows d p || t) (same-octet c q bits d p hq hb hp)
-
-octet-link : (c q n bits : ℕ) (links : List ℕ) (p : ℕ) → c < n → 8 * q + 8 ≤ n → Octet links (c * n + 8 * q) 8 bits → 8 * q ≤ p → p < 8 * (q + 1)
-    → on bits (p - 8 * q) ≡ link n links c p
-unfolding link
-octet-link c q n bits links p hc hq o l h =
-    let place : c * n + 8 * q + (p - 8 * q) ≡ c * n + p = omega arith in
-    o .at (p - 8 * q) ∙ rw (lt-ltb (p - 8 * q) 8 (omega arith), lt-ltb c n hc, lt-ltb p n (omega arith), place) refl
-
-pub filled-octet : (c q n bits : ℕ) (links rows next : List ℕ) → c < n → 8 * q + 8 ≤ n → Octet links (c * n + 8 * q) 8 bits
-    → Filled (before c (8 * q)) n links rows → Added rows next (λ d p. eqb d c && (leb (8 * q) p && on bits (p - 8 * q)))
-    → Filled (before c (8 * (q + 1))) n links next
-filled-octet c q n bits links rows next hc hq o f a =
-    record { long = a .long; bits = λ d p h. a .bits d p h ∙ rw (f .bits d p h) (go d p (eqb d c) refl) }
-  where
-    here : (p : ℕ) → ((ltb p (8 * q) && link n links c p) || (leb (8 * q) p && on bits (p - 8 * q))) ≡ (ltb p (8 * (q + 1)) && link n links c p)
-    here p = by-cases (decLt p (8 * q))
-        (λ less. rw (lt-ltb p (8 * q) less, lt-leb (8 * q) p less, lt-ltb p (8 * (q + 1)) (omega arith)) (or-false (link n links c p)))
-        (λ more. by-cases (decLt p (8 * (q + 1)))
-        (λ inside. rw (le-ltb p (8 * q) (omega arith), le-leb (8 * q) p (omega arith), lt-ltb p (8 * (q + 1)) inside) (octet-link c q n bits links p hc hq o (omega arith) inside))
-        (λ past. rw (le-ltb p (8 * q) (omega arith), le-leb (8 * q) p (omega arith), le-ltb p (8 * (q + 1)) (omega arith)) (on-small bits (p - 8 * q) (o .small) (omega arith))))
-
-    go : (d p : ℕ) (t : Bool) → eqb d c ≡ t
-        → (((ltb d c || (t && ltb p (8 * q))) && link n links d p) || (t && (leb (8 * q) p && on bits (p - 8 * q))))
-        ≡ ((ltb d c || (t && ltb p (8 * (q + 1)))) && link n links d p)
-    go d p true e = let same = eqb-true d c e in rw (same, le-ltb c c (le-refl c)) (here p)
-    go d p false e = or-false ((ltb d c || false) && link n links d p)

@@ -12,12 +12,11 @@ use Prim.Native.Nat.{ℕ, _+_, _<_, _≤_, min, zero-le}
 use native.Mathlib.Omega.{arith}
 use borrow.Author.Tests.{lt-ltb, le-ltb}
 use lib.Dec.{eqb, ltb}
-use lib.ListN.{length, replicate, length-replicate}
-use Rattle.relation.specs.Bit.{bit, Added}
+use lib.ListN.{length}
+use Rattle.relation.specs.Bit.{bit, Blank, Added}
 use Rattle.relation.specs.First.{First}
 use Rattle.relation.specs.Turned.{Turned}
 use Rattle.relation.proofs.Bools.{or-false, and-false, and-true, and-swap, one-more}
-use Rattle.relation.proofs.Filling.{bit-zeros}
 use Rattle.relation.proofs.Walking.{first-skips}
 
 added-none : (rows : List ℕ) (more : ℕ → ℕ → Bool) → length rows ≡ 256 → ((d q : ℕ) → more d q ≡ false) → Added rows rows more
@@ -79,19 +78,18 @@ unfoldable pub rows-turned : List ℕ → ℕ → ℕ → ℕ → ℕ → Bool
 rows-turned rows n k p d = ltb d k && (ltb p n && bit rows d p)
 
 module _ (rows : List ℕ) (n : ℕ) where
-  -- k is not written as 256, so that `replicate k 0` stays as it is
-  pub turn-none : (k : ℕ) → k ≡ 256 → Added (replicate k 0) (replicate k 0) (rows-turned rows n 0)
+  pub turn-none : {old : List ℕ} → Blank old → Added old old (rows-turned rows n 0)
   unfolding rows-turned
-  turn-none k e = added-none (replicate k 0) (rows-turned rows n 0) (length-replicate k 0 ∙ e) (λ p d. rw (le-ltb d 0 zero-le) refl)
+  turn-none b = added-none _ (rows-turned rows n 0) (b .long) (λ p d. rw (le-ltb d 0 zero-le) refl)
 
   pub turn-more : (c : ℕ) {old mid new : List ℕ} → Added old mid (rows-turned rows n c)
       → Added mid new (λ p d. eqb d c && (ltb p n && bit rows c p)) → Added old new (rows-turned rows n (c + 1))
   unfolding rows-turned
   turn-more c a b = added-more (rows-turned rows n (c + 1)) a b (λ p d. one-more (λ x. ltb p n && bit rows x p) d c)
 
-  pub turned : (k : ℕ) {new : List ℕ} → Added (replicate k 0) new (rows-turned rows n n) → Turned n rows new
+  pub turned : {old new : List ℕ} → Blank old → Added old new (rows-turned rows n n) → Turned n rows new
   unfolding rows-turned
-  turned k a = record { long = a .long; bits = λ p c h. a .bits p c h ∙ rw (bit-zeros k p c) refl }
+  turned b a = record { long = a .long; bits = λ p c h. a .bits p c h ∙ rw (b .none p c) refl }
 
 pub turned-within : {n : ℕ} {rows turned : List ℕ} → Turned n rows turned → (p c : ℕ) → n ≤ 128 → p < n → c < n → bit turned p c ≡ bit rows c p
 turned-within {n} s p c most hp hc = s .bits p c (omega arith) ∙ rw (lt-ltb c n hc, lt-ltb p n hp) refl

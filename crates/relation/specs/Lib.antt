@@ -1,5 +1,4 @@
 pub mod Bit
 pub mod Closed
 pub mod First
-pub mod Loaded
 pub mod Turned

@@ -1,15 +1,13 @@
 // A relation over at most 128 kinds as rows of bits: its single places, the walk along a row, the closure over chains of
-// links, the rows turned round, and the rows of a book's links. `close`, `load` and `turn` say of every place what is
-// there after.
+// links, and the rows turned round. `close` and `turn` say of every place what is there after.
 ghost use mathlib.Core.Path.{_≡_};
 ghost use mathlib.Core.Bool.{_&&_};
-ghost use Prim.Native.Nat.{_+_, _-_, _*_, _<_, _≤_};
+ghost use Prim.Native.Nat.{_-_, _*_, _<_, _≤_};
 ghost use lib.Dec.{eqb, ltb, leb};
 ghost use lib.ListN.{length};
-ghost use Rattle.relation.specs.Bit.{on, bit, Added, Removed};
+ghost use Rattle.relation.specs.Bit.{on, bit, Blank, Added, Removed};
 ghost use Rattle.relation.specs.Closed.{Closed, Swept, Gathered};
 ghost use Rattle.relation.specs.First.{First};
-ghost use Rattle.relation.specs.Loaded.{Loaded, Filled, Octet, rows-before};
 ghost use Rattle.relation.specs.Turned.{Turned};
 
 // Whether kind p is in row c.
@@ -77,6 +75,15 @@ pub fn join(rows: &mut [u64; 256], c: usize, k: usize)
     rows[i + 1] = rows[i + 1] | rows[j + 1];
 }
 
+// The kinds 8 * q + k of the bits k are put into row c.
+pub fn mark_octet(rows: &mut [u64; 256], c: usize, q: usize, bits: u8)
+    requires { ⌜ (length (now rows) ≡ 256) × (c < 128) × (q < 16) × (bits < 256) ⌝ }
+    ensures { λ _. ⌜ Added (now (rows .entry)) (now (rows .exit)) (λ d p. eqb d c && (leb (8 * q) p && on bits (p - 8 * q))) ⌝ }
+{
+    let i = 2 * c + q / 8;
+    rows[i] = rows[i] | (bits as u64) << (8 * (q % 8));
+}
+
 // The kinds that are in a row below n are put into row 0 of `parents`.
 fn gather(rows: &[u64; 256], n: usize, parents: &mut [u64; 256])
     requires { ⌜ (n ≤ 128) × (length (now parents) ≡ 256) ⌝ }
@@ -119,54 +126,6 @@ pub fn close(rows: &mut [u64; 256], n: usize)
     }
 }
 
-// The eight bytes at i as bits: bit k is set where byte i + k is 1.
-fn octet(links: &[u8], i: usize) -> u8
-    requires { ⌜ i + 8 ≤ length (now links) ⌝ }
-    ensures { λ r. ⌜ Octet (now (links .entry)) i 8 r ⌝ }
-{
-    let mut bits = 0u8;
-    for k in 0..8 {
-        bits = bits | ((links[i + k] == 1) as u8) << k;
-    }
-    bits
-}
-
-// The kinds 8 * q + k of the bits k are put into row c.
-fn mark_octet(rows: &mut [u64; 256], c: usize, q: usize, bits: u8)
-    requires { ⌜ (length (now rows) ≡ 256) × (c < 128) × (q < 16) × (bits < 256) ⌝ }
-    ensures { λ _. ⌜ Added (now (rows .entry)) (now (rows .exit)) (λ d p. eqb d c && (leb (8 * q) p && on bits (p - 8 * q))) ⌝ }
-{
-    let i = 2 * c + q / 8;
-    rows[i] = rows[i] | (bits as u64) << (8 * (q % 8));
-}
-
-// Row c gets its links, where the rows before it have theirs and nothing else is there. Eight bytes are taken at once.
-fn load_row(links: &[u8], n: usize, c: usize, rows: &mut [u64; 256])
-    requires { ⌜ (n * n ≤ length (now links)) × (n ≤ 128) × (c < n) × (Filled (rows-before c) n (now links) (now rows)) ⌝ }
-    ensures { λ _. ⌜ Filled (rows-before (c + 1)) n (now (links .entry)) (now (rows .exit)) ⌝ }
-{
-    for q in 0..n / 8 {
-        mark_octet(rows, c, q, octet(links, c * n + 8 * q));
-    }
-    for p in n / 8 * 8..n {
-        if links[c * n + p] == 1 {
-            mark(rows, c, p);
-        }
-    }
-}
-
-// The links of a book of n kinds are put into the rows, whatever was there. The byte at place child * n + parent is 1
-// where there is a link.
-pub fn load(links: &[u8], n: usize, rows: &mut [u64; 256])
-    requires { ⌜ (n * n ≤ length (now links)) × (n ≤ 128) ⌝ }
-    ensures { λ _. ⌜ Loaded n (now (links .entry)) (now (rows .exit)) ⌝ }
-{
-    *rows = [0u64; 256];
-    for c in 0..n {
-        load_row(links, n, c, rows);
-    }
-}
-
 // Kind c is put into row p of `turned` for each kind p below n that is in row c of `rows`.
 fn turn_row(rows: &[u64; 256], n: usize, c: usize, turned: &mut [u64; 256])
     requires { ⌜ (n ≤ 128) × (c < n) × (length (now turned) ≡ 256) ⌝ }
@@ -179,13 +138,12 @@ fn turn_row(rows: &[u64; 256], n: usize, c: usize, turned: &mut [u64; 256])
     }
 }
 
-// The rows of the kinds below n are turned round, whatever was in `turned`: kind c is in row p of `turned` where kind p
-// is in row c of `rows`.
+// The rows of the kinds below n are turned round: kind c is in row p of `turned`, which was blank, where kind p is in row c
+// of `rows`.
 pub fn turn(rows: &[u64; 256], n: usize, turned: &mut [u64; 256])
-    requires { ⌜ n ≤ 128 ⌝ }
+    requires { ⌜ (n ≤ 128) × (Blank (now turned)) ⌝ }
     ensures { λ _. ⌜ Turned n (now (rows .entry)) (now (turned .exit)) ⌝ }
 {
-    *turned = [0u64; 256];
     for c in 0..n {
         turn_row(rows, n, c, turned);
     }

@@ -1,4 +1,4 @@
--- Document 01's session: its thirteen cases to be proved, as one table and one theorem, from input bytes to output bytes.
+-- Document 01's session with request U6's answers: its thirteen cases to be proved, as one table and one theorem, from input bytes to output bytes.
 --     cases-hold    the program prints, line by line, what the table says
 -- Assumes nothing.
 use mathlib.Core.Path.{_≡_, refl}
@@ -7,7 +7,7 @@ use Prim.Native.Nat.{ℕ}
 use Prim.Native.String.{String}
 use Rattle.text.specs.Bytes.{bytes}
 use Rattle.inheritance.specs.Above.{above, through}
-use Rattle.inheritance.specs.Lookup.{lookup, within, inherit, collect, settle}
+use Rattle.inheritance.specs.Lookup.{lookup, within, inherit, left, least, seen, some-below, passing, meet, join}
 use Rattle.tables.specs.Tables.{sized, sound, well-linked, all-below, differing, entriesOf, entryAt, grid, listed}
 use Rattle.tables.specs.Calls.{openBook, addRule, addLink, takeLink, find, accepted, check, findingOf}
 use Rattle.text.specs.Decimal.{numberAt, isDigit, further, digits, lastDigits, width}
@@ -34,8 +34,8 @@ cases =
     ∷ ("(add (rule 0 0 10))" ⟶ "(done 4)")
     ∷ ("(find 3 0)" ⟶ "(rule 0 10)")
     ∷ ("(add (rule 1 0 20))" ⟶ "(done 2)")
-    ∷ ("(find 3 0)" ⟶ "(dispute 3)")
-    ∷ ("(add (rule 2 0 20))" ⟶ "(done 1)")
+    ∷ ("(find 3 0)" ⟶ "(rule 1 20)")
+    ∷ ("(add (rule 2 0 20))" ⟶ "(done 2)")
     ∷ ("(take (under 3 2))" ⟶ "(done 1)")
     ∷ ("(find 3 0)" ⟶ "(rule 1 20)")
     ∷ ("(find 3 1)" ⟶ "(none)")
@@ -50,5 +50,5 @@ outputs [] = []
 outputs (c ∷ cs) = bytes (c .answer) ∷ outputs cs
 
 pub cases-hold : answers start (inputs cases) ≡ outputs cases
-unfolding answers lineOf turnOf formOf firstFit shapes edits fits numberAt isDigit further filled digits lastDigits width openBook addRule addLink takeLink find accepted check findingOf sized sound well-linked all-below differing entriesOf entryAt grid listed above through lookup within inherit collect settle
+unfolding answers lineOf turnOf formOf firstFit shapes edits fits numberAt isDigit further filled digits lastDigits width openBook addRule addLink takeLink find accepted check findingOf sized sound well-linked all-below differing entriesOf entryAt grid listed above through lookup within inherit left least seen some-below passing meet join
 cases-hold = refl

@@ -5,9 +5,9 @@
 --     rule-awaiting, rule-settled    the own rule of e for a mark is set: what `settle` asks at that mark, and what it then leaves
 --     link-awaiting, link-settled    the link from e to q is set: the same at every mark
 -- Assumes nothing.
-use mathlib.Core.Path.{_≡_, refl, sym, _∙_, ap, subst, fun-ext}
-use mathlib.Core.Logic.{_≢_, _⊎_, inl, inr, ⊎-elim}
-use mathlib.Core.Bool.{Bool, false, not}
+use mathlib.Core.Path.{_≡_, sym, _∙_, ap, subst, fun-ext}
+use mathlib.Core.Logic.{_⊎_, inl, inr, ⊎-elim}
+use mathlib.Core.Bool.{Bool, false}
 use mathlib.Core.List.{List}
 use Prim.Native.Nat.{ℕ, _+_, _*_, _<_, _≤_}
 use native.Mathlib.Omega.{arith}
@@ -15,33 +15,29 @@ use lib.Dec.{eqb}
 use lib.ListN.{length, getD, set}
 use lib.Seq.{getD-set-other}
 use Rattle.inheritance.specs.Above.{Acyclic}
-use Rattle.inheritance.specs.Lookup.{lookup, Below, start, down}
-use Rattle.inheritance.proofs.TouchLaws.{untouched-after}
+use Rattle.inheritance.specs.Lookup.{lookup, Below}
+use Rattle.inheritance.proofs.AboveLaws.{SameBut}
+use Rattle.inheritance.proofs.TouchLaws.{below-upto, rule-keeps, link-keeps}
 use Rattle.relation.specs.Bit.{bit}
-use Rattle.relation.specs.Loaded.{Loaded}
+use Rattle.loading.specs.Loaded.{Loaded}
 use Rattle.tables.specs.Entry.{entryOf}
 use Rattle.tables.specs.Tables.{ownOf, entryAt, entriesOf, differing}
 use Rattle.tables.proofs.SoundLaws.{Looked}
 use Rattle.tables.proofs.TableLaws.{place-split}
 use Rattle.settling.specs.Settled.{Visited, Awaiting, Settled}
 use Rattle.settling.proofs.Order.{settled-looked}
+use Rattle.deciding.proofs.Preparing.{own-kept}
 use Rattle.settling.proofs.Soundness.{rows-links, entries-looked, looked-entries}
 
 abbrev pub Accepted : (n m : ℕ) (links rules old new : List ℕ) (count : ℕ) → Type 0
 Accepted n m links rules old new count = (new ≡ entriesOf n m links rules) × (count ≡ differing old (entriesOf n m links rules))
 
-module _ (n m : ℕ) (up up′ : ℕ → ℕ → Bool) (rules rules′ entries visited : List ℕ) (e : ℕ) (acyclic : Acyclic n up) (acyclic′ : Acyclic n up′)
-    (same-up : (c p : ℕ) → c < n → p < n → c ≢ e → up c p ≡ up′ c p) where
-  awaiting : {lo hi : ℕ} → hi ≤ m
-      → ((j c : ℕ) → lo ≤ j → j < hi → c ≢ e → ownOf m rules j c ≡ ownOf m rules′ j c)
-      → ((j k : ℕ) → lo ≤ j → j < hi → k < n → Below n up′ (ownOf m rules′ j) e k → Visited visited k)
-      → Looked n m up rules entries → Awaiting n m lo hi up′ rules′ visited entries
-  unfolding entryAt
-  awaiting high same-own reached before c j hc a b fresh =
-      before c j hc (omega arith)
-      ∙ ap entryOf
-      (untouched-after n up up′ (ownOf m rules j) (ownOf m rules′ j) acyclic acyclic′ e same-up (λ d _ ne. same-own j d a b ne) c hc
-      (λ below. fresh (reached j c a b hc below)))
+-- the kinds that are not visited keep their lookups
+awaiting : (n m : ℕ) (up up′ : ℕ → ℕ → Bool) (rules rules′ entries visited : List ℕ) {lo hi : ℕ} → hi ≤ m
+    → ((c j : ℕ) → c < n → lo ≤ j → j < hi → (Visited visited c → ⊥) → lookup n up (ownOf m rules j) c ≡ lookup n up′ (ownOf m rules′ j) c)
+    → Looked n m up rules entries → Awaiting n m lo hi up′ rules′ visited entries
+unfolding entryAt
+awaiting n m up up′ rules rules′ entries visited high kept before c j hc a b fresh = before c j hc (omega arith) ∙ ap entryOf (kept c j hc a b fresh)
 
 module _ (n m : ℕ) (links rules rows old new : List ℕ) (kinds : n ≤ 128) (size : length old ≡ n * m) (loaded : Loaded n links rows) (acyclic : Acyclic n (bit rows)) where
   accepted : {lo hi count : ℕ} → Settled n m lo hi (bit rows) rules old new count
@@ -62,18 +58,13 @@ module _ (n m : ℕ) (links rules rows entries : List ℕ) (kinds : n ≤ 128) (
     abbrev rules′ : List ℕ
     rules′ = set rules (e * m + mark) handling
 
-    own-kept : (j c : ℕ) → j < m → (c ≢ e) ⊎ (j ≢ mark) → ownOf m rules j c ≡ ownOf m rules′ j c
-    own-kept j c hj apart = ap (λ (x : ℕ). not (eqb x 0)) (sym (getD-set-other rules (e * m + mark) (c * m + j) handling 0 elsewhere))
-      where
-        elsewhere : c * m + j ≢ e * m + mark
-        elsewhere q = let same = place-split {k = c} {k′ = e} hj mark-in q in ⊎-elim (λ ne. ne (same .0)) (λ ne. ne (same .1)) apart
-
     pub rule-awaiting : (visited : List ℕ) → ((k : ℕ) → k < n → Below n (bit rows) (ownOf m rules′ mark) e k → Visited visited k)
         → Awaiting n m mark (mark + 1) (bit rows) rules′ visited entries
     rule-awaiting visited reached =
-        awaiting n m (bit rows) (bit rows) rules rules′ entries visited e acyclic acyclic (λ c p hc hp ne. refl) (omega arith)
-        (λ j c a b ne. own-kept j c (omega arith) (inl ne))
-        (λ j k a b hk below. let same : j ≡ mark = omega arith in reached k hk (subst (λ (x : ℕ). Below n (bit rows) (ownOf m rules′ x) e k) same below))
+        awaiting n m (bit rows) (bit rows) rules rules′ entries visited (omega arith)
+        (λ c j hc a b fresh. let same : j ≡ mark = omega arith in
+        sym (rule-keeps n (bit rows) acyclic (ownOf m rules′ j) (ownOf m rules j) e (λ d _ ne. sym (own-kept m rules e mark handling mark-in j d (omega arith) (inl ne))) c hc
+        (λ below. fresh (reached c hc (subst (λ (x : ℕ). Below n (bit rows) (ownOf m rules′ x) e c) same below)))))
         looked-before
 
     pub rule-settled : {new : List ℕ} {count : ℕ} → Settled n m mark (mark + 1) (bit rows) rules′ entries new count → Accepted n m links rules′ entries new count
@@ -84,28 +75,25 @@ module _ (n m : ℕ) (links rules rows entries : List ℕ) (kinds : n ≤ 128) (
         others c j hc hj out =
             looked-before c j hc hj
             ∙ ap (λ (own : ℕ → Bool). entryOf (lookup n (bit rows) own c))
-            (fun-ext (λ d. own-kept j d hj (inr (λ same. ⊎-elim (λ less. omega arith) (λ more. omega arith) out))))
+            (fun-ext (λ d. own-kept m rules e mark handling mark-in j d hj (inr (λ same. ⊎-elim (λ less. omega arith) (λ more. omega arith) out))))
 
   module _ (e q byte : ℕ) (q-in : q < n) (rows′ : List ℕ) (loaded′ : Loaded n (set links (e * n + q) byte) rows′) (acyclic′ : Acyclic n (bit rows′)) where
     abbrev links′ : List ℕ
     links′ = set links (e * n + q) byte
 
-    up-kept : (c p : ℕ) → c < n → p < n → c ≢ e → bit rows c p ≡ bit rows′ c p
-    up-kept c p hc hp ne =
+    same-but : SameBut n (bit rows′) (bit rows) e q
+    same-but c p hc hp other =
         rows-links n links rows kinds loaded c p hc hp
-        ∙ ap (λ (x : ℕ). eqb x 1) (sym (getD-set-other links (e * n + q) (c * n + p) byte 0 (λ same. ne (place-split {k = c} {k′ = e} hp q-in same .0))))
+        ∙ ap (λ (x : ℕ). eqb x 1) (sym (getD-set-other links (e * n + q) (c * n + p) byte 0 (λ same. other (place-split {k = c} {k′ = e} hp q-in same))))
         ∙ sym (rows-links n links′ rows′ kinds loaded′ c p hc hp)
-
-    -- where no own rule stops the way down, more is reached
-    below-any : {own : ℕ → Bool} {k : ℕ} → Below n (bit rows′) own e k → Below n (bit rows′) (λ _. false) e k
-    below-any start = start
-    below-any (down b l u o) = down (below-any b) l u refl
 
     pub link-awaiting : (visited : List ℕ) → ((k : ℕ) → k < n → Below n (bit rows′) (λ _. false) e k → Visited visited k)
         → Awaiting n m 0 m (bit rows′) rules visited entries
     link-awaiting visited reached =
-        awaiting n m (bit rows) (bit rows′) rules rules entries visited e acyclic acyclic′ up-kept (omega arith) (λ j c a b ne. refl)
-        (λ j k a b hk below. reached k hk (below-any below)) looked-before
+        awaiting n m (bit rows) (bit rows′) rules rules entries visited (omega arith)
+        (λ c j hc a b fresh. sym (link-keeps n (bit rows′) (bit rows) (ownOf m rules j) acyclic′ acyclic e q same-but c hc
+        (λ up-to. fresh (reached c hc (below-upto n (bit rows′) (λ _. false) e c .1 up-to)))))
+        looked-before
 
     pub link-settled : {new : List ℕ} {count : ℕ} → Settled n m 0 m (bit rows′) rules entries new count → Accepted n m links′ rules entries new count
     link-settled {new} s = all-settled n m links′ rules rows′ entries new kinds size loaded′ acyclic′ s

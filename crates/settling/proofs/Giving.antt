@@ -1,7 +1,8 @@
 -- What a row of entries holds while it is worked out: what the parents of kind c give it, and then its own rules.
 --     row-first, row-merge              the first parent is taken as it is; one more is merged in
 --     row-next, row-empty               up to the next parent nothing more is given; there is none
---     row-own                           the own rules win: the row is worked out
+--     row-kind                          a row that is worked out, compared with the entries of its kind
+--     row-decided                       the own rules win, and where the parents differ the kinds left decide: the row is worked out
 -- Assumes nothing.
 use mathlib.Core.Path.{_≡_, refl, sym, _∙_, ap}
 use mathlib.Core.Bool.{Bool, true, false, not}
@@ -12,19 +13,24 @@ use native.Mathlib.Omega.{arith}
 use lib.Dec.{eqb}
 use lib.ListN.{getD, replicate, length-replicate, getD-replicate}
 use Rattle.inheritance.specs.declared.Lookup.{Lookup}
-use Rattle.inheritance.specs.declared.Lookup.the-variants.{Rule}
+use Rattle.inheritance.specs.declared.Lookup.the-variants.{Rule, Dispute}
 use Rattle.inheritance.specs.Checked.{kind}
-use Rattle.inheritance.specs.Lookup.{settle, collect, inherit}
-use Rattle.inheritance.specs.Meet.{join, meet}
-use Rattle.inheritance.proofs.MeetLaws.{meet-settle, meet-keeps}
+use Rattle.inheritance.specs.Lookup.{left, passing, join, meet, decided}
+use Rattle.inheritance.specs.Step.{narrowed, step}
+use Rattle.inheritance.proofs.MeetLaws.{meet-keeps}
 use Rattle.relation.specs.First.{First}
 use Rattle.relation.proofs.Walking.{first-skips}
-use Rattle.tables.specs.Entry.{entryOf}
-use Rattle.tables.specs.Step.{read, stepped}
+use Rattle.tables.specs.Entry.{entryOf, lookupOf}
+use Rattle.tables.specs.Step.{read, stepped, kind-right}
+use Rattle.tables.specs.Tables.{ownOf, all-below}
+use Rattle.tables.proofs.TableLaws.{below-same}
 use Rattle.tables.proofs.EntryLaws.{Coded, coded-none, coded-dispute, coded-read}
-use Rattle.settling.specs.Row.{merged, ruled, given, Row}
+use Rattle.deciding.specs.Deciding.{apart}
+use Rattle.deciding.specs.Row.{Row}
+use Rattle.settling.specs.Merged.{merged, narrowing, ruled, given}
 use Rattle.settling.proofs.MergeLaws.{merge-first}
-use Rattle.settling.proofs.Rows.{row-same}
+use Rattle.settling.proofs.NarrowLaws.{apart-ruled, apart-narrows}
+use Rattle.deciding.proofs.Rows.{row-same}
 
 module _ (m : ℕ) (up : ℕ → ℕ → Bool) (entries : List ℕ) (c : ℕ) where
   given-coded : (k j : ℕ) → Coded (meet c (up c) (read m entries j) k)
@@ -77,17 +83,35 @@ module _ (m : ℕ) (up : ℕ → ℕ → Bool) (entries : List ℕ) (c : ℕ) wh
       sym (merge-first c (getD entries (p * m + j) 0)) ∙ ap (λ (e : ℕ). merged c e (getD entries (p * m + j) 0)) (sym none) ∙ given-more p j u) r
 
   module _ (n : ℕ) (rules : List ℕ) where
-    given-own : (j : ℕ) → ruled c (getD rules (c * m + j) 0) (given m up entries c n j) ≡ stepped n m up rules entries c j
-    unfolding stepped inherit ruled given
+    abbrev lefts : ℕ → ℕ → Bool
+    lefts j = left n up (ownOf m rules j) c
+
+    given-own : (j : ℕ) → ruled c (getD rules (c * m + j) 0) (narrowing n (lefts j) c (given m up entries c n j)) ≡ stepped n m up rules entries c j
+    unfolding stepped step ruled given narrowing
     given-own j = go (eqb (getD rules (c * m + j) 0) 0)
       where
-        go : (b : Bool) → _≡_ {A = ℕ} (elim b [ true ↦ entryOf (meet c (up c) (read m entries j) n) | false ↦ c + 1 ])
-            (entryOf (elim (not b) [ true ↦ Rule (kind c) | false ↦ settle c (collect (up c) (read m entries j) n) ]))
-        go true = ap entryOf (meet-settle c (up c) (read m entries j) n)
+        met : Lookup
+        met = meet c (up c) (read m entries j) n
+
+        go : (b : Bool) → _≡_ {A = ℕ} (elim b [ true ↦ entryOf (narrowed c (passing (lefts j) n) (lookupOf (entryOf met))) | false ↦ c + 1 ])
+            (entryOf (elim (not b) [ true ↦ Rule (kind c) | false ↦ narrowed c (passing (lefts j) n) met ]))
+        go true = ap (λ (v : Lookup). entryOf (narrowed c (passing (lefts j) n) v)) (given-coded n j)
         go false = refl
 
-    pub row-own : {lo hi : ℕ} {out new : List ℕ} → Row lo hi (given m up entries c n) out
-        → Row lo hi (λ j. ruled c (getD rules (c * m + j) 0) (getD out j 0)) new → Row lo hi (stepped n m up rules entries c) new
-    row-own r s =
+    -- `decisions j` is what the kinds left decide for mark j
+    pub row-decided : (decisions : ℕ → Lookup) {lo hi : ℕ} {out mid new : List ℕ} → c < 128
+        → ((j : ℕ) → j < hi → decisions j ≡ decided (passing (left n up (ownOf m rules j) c) n) (Dispute (kind c)))
+        → Row lo hi (given m up entries c n) out → Row lo hi (λ j. ruled c (getD rules (c * m + j) 0) (getD out j 0)) mid
+        → Row lo hi (λ j. apart c (getD mid j 0) (decisions j)) new
+        → Row lo hi (stepped n m up rules entries c) new
+    row-decided decisions h right r o s =
         row-same (stepped n m up rules entries c)
-        (λ j a b. ap (ruled c (getD rules (c * m + j) 0)) (r .at j a b) ∙ given-own j) s
+        (λ j a b. let rule = getD rules (c * m + j) 0 in
+        ap (λ (e : ℕ). apart c e (decisions j)) (o .at j a b ∙ ap (ruled c rule) (r .at j a b))
+        ∙ apart-ruled c rule (given m up entries c n j) (decisions j) h
+        ∙ ap (ruled c rule) (apart-narrows n (lefts j) c (given m up entries c n j) (decisions j) (right j b)) ∙ given-own j) s
+
+pub row-kind : (n m : ℕ) (up : ℕ → ℕ → Bool) (rules entries : List ℕ) (c : ℕ) {out : List ℕ} → Row 0 m (stepped n m up rules entries c) out
+    → all-below (λ j. eqb (getD entries (c * m + j) 0) (getD out j 0)) m ≡ kind-right n m up rules entries c
+unfolding kind-right
+row-kind n m up rules entries c r = below-same _ _ m (λ j h. ap (eqb (getD entries (c * m + j) 0)) (r .at j (omega arith) h))

@@ -2,8 +2,8 @@
 pub mod Editing
 pub mod Giving
 pub mod MergeLaws
+pub mod NarrowLaws
 pub mod Order
-pub mod Ranking
-pub mod Rows
+pub mod PartyLaws
 pub mod Soundness
 pub mod Writing

@@ -8,13 +8,11 @@ use mathlib.Core.Bool.{true, false}
 use Prim.Native.Nat.{ℕ, _+_}
 use Rattle.inheritance.specs.declared.Lookup.{Lookup}
 use Rattle.inheritance.specs.declared.Lookup.the-variants.{None}
-use Rattle.inheritance.specs.Lookup.{same}
-use Rattle.inheritance.specs.Meet.{join}
-use Rattle.inheritance.proofs.CollectLaws.{same-true}
-use Rattle.inheritance.proofs.MeetLaws.{join-none, join-same, join-differ}
+use Rattle.inheritance.specs.Lookup.{same, join}
+use Rattle.inheritance.proofs.MeetLaws.{same-true, join-none, join-same, join-differ}
 use Rattle.tables.specs.Entry.{entryOf, lookupOf}
 use Rattle.tables.proofs.EntryLaws.{entry-lookup}
-use Rattle.settling.specs.Row.{merged}
+use Rattle.settling.specs.Merged.{merged}
 
 pub merge-none : (c a : ℕ) → merged c a 0 ≡ a
 unfolding merged join lookupOf

@@ -2,27 +2,48 @@
 --     rows-links                         rows that are loaded have the links
 --     rows-acyclic, acyclic-rows         no kind is above itself by the rows just where none is by the links
 --     entries-looked, looked-entries     a table of lookups by the rows is `entriesOf` of the links and the rules
---     free-tests                         a kind is in its own closed row just where it is above itself
---     links-tests, sound-tests           the tests of the code are those of `well-linked` and `sound`
+--     free-tests                         the kinds can be arranged just where no kind is above itself
+--     bytes-wrong, bytes-tested          what the test of the bytes says where it fails, and where it holds
+--     linked-bytes                       it holds where the links are right
+--     links-tests                        the tests of the code are those of `well-linked`
+--     links-wrong, links-right           .. and those of `sound`, where the links are wrong, and where they are right
 --     sound-means                        of sound tables: no kind is above itself, and the entries are `entriesOf`
 -- Assumes nothing.
 use mathlib.Core.Path.{_≡_, refl, sym, _∙_, ap, ap₂}
-use mathlib.Core.Bool.{Bool, true, _&&_, not}
+use mathlib.Core.Bool.{Bool, true, false, _&&_, not, and-eq-true-iff}
 use mathlib.Core.List.{List}
 use Prim.Native.Nat.{ℕ, _*_, _<_, _≤_}
 use native.Mathlib.Omega.{arith}
-use borrow.Author.Tests.{lt-ltb}
+use borrow.Author.Tests.{lt-ltb, leb-true, not-true}
 use lib.ListN.{length}
 use Rattle.inheritance.specs.Above.{above, Acyclic}
 use Rattle.inheritance.proofs.AboveLaws.{above-same}
+use Rattle.inheritance.proofs.LeftLaws.{same-bool}
+use Rattle.arranging.specs.Arranged.{Arrangement}
 use Rattle.relation.specs.Bit.{bit}
-use Rattle.relation.specs.Closed.{Closed}
-use Rattle.relation.specs.Loaded.{Loaded, link}
+use Rattle.loading.specs.Loaded.{Loaded, Tested, link}
 use Rattle.tables.specs.Step.{right}
 use Rattle.tables.specs.Tables.{lent, upOf, entriesOf, all-below, byte-right, kind-free, well-linked, sound}
 use Rattle.tables.proofs.SoundLaws as laws
 use Rattle.tables.proofs.SoundLaws.{Looked, right-up, sound-by-steps}
-use Rattle.tables.proofs.TableLaws.{below-same}
+use Rattle.tables.proofs.TableLaws.{below-true, true-below}
+
+-- the bytes alone
+module _ (n : ℕ) (links : List ℕ) (size : length links ≡ n * n) where
+  pub bytes-wrong : all-below (byte-right links) (length links) ≡ false → false ≡ well-linked n links
+  unfolding well-linked
+  bytes-wrong wrong = ap (λ (b : Bool). b && all-below (kind-free n links) n) (sym wrong ∙ ap (all-below (byte-right links)) size)
+
+  pub bytes-tested : all-below (byte-right links) (length links) ≡ true → Tested n links
+  bytes-tested right i h = leb-true _ 1 (below-true (byte-right links) (length links) right i (omega arith))
+
+  pub linked-bytes : well-linked n links ≡ true → all-below (byte-right links) (length links) ≡ true
+  unfolding well-linked
+  linked-bytes is = ap (all-below (byte-right links)) size ∙ and-eq-true-iff (all-below (byte-right links) (n * n)) _ .0 is .0
+
+pub links-wrong : (n m : ℕ) (links rules entries tally : List ℕ) → false ≡ well-linked n links → false ≡ sound n m (lent links rules entries tally)
+unfolding sound
+links-wrong n m links rules entries tally e = rw (← e) refl
 
 module _ (n : ℕ) (links rows : List ℕ) (kinds : n ≤ 128) (loaded : Loaded n links rows) where
   pub rows-links : (c p : ℕ) → c < n → p < n → bit rows c p ≡ upOf n links c p
@@ -38,20 +59,25 @@ module _ (n : ℕ) (links rows : List ℕ) (kinds : n ≤ 128) (loaded : Loaded 
   pub acyclic-rows : Acyclic n (upOf n links) → Acyclic n (bit rows)
   acyclic-rows acyclic c h = rows-above c h ∙ acyclic c h
 
-  module _ (closed : List ℕ) (closes : Closed n n rows closed) where
-    pub free-tests : (c : ℕ) → c < n → not (bit closed c c) ≡ kind-free n links c
-    unfolding above
-    free-tests c h = ap not (closes .bits c c h (omega arith) ∙ rows-above c h)
+  module _ (order reach : List ℕ) (found : Bool) (a : Arrangement n rows order reach found) where
+    free-tests : found ≡ all-below (kind-free n links) n
+    free-tests =
+        same-bool _ _
+        (λ e. true-below _ n (λ c h. ap not (rows-acyclic (a .free e) c h)))
+        (λ e. a .all (acyclic-rows (λ c h. not-true _ (below-true _ n e c h))))
 
-    pub links-tests : length links ≡ n * n → (all-below (byte-right links) (length links) && all-below (λ c. not (bit closed c c)) n) ≡ well-linked n links
+    pub links-tests : length links ≡ n * n → all-below (byte-right links) (length links) ≡ true → found ≡ well-linked n links
     unfolding well-linked
-    links-tests size = ap₂ _&&_ (ap (all-below (byte-right links)) size) (below-same _ _ n free-tests)
+    links-tests size right = ap₂ _&&_ (sym right ∙ ap (all-below (byte-right links)) size) free-tests
 
   module _ (m : ℕ) (rules entries : List ℕ) (size : length entries ≡ n * m) where
-    pub sound-tests : (tally : List ℕ) → (well-linked n links && right n m (bit rows) rules entries) ≡ sound n m (lent links rules entries tally)
-    sound-tests tally =
-        ap (λ (b : Bool). well-linked n links && b) (right-up n m (bit rows) (upOf n links) rules entries rows-links)
+    sound-tests : (tally : List ℕ) {linked : Bool} → linked ≡ well-linked n links → (linked && right n m (bit rows) rules entries) ≡ sound n m (lent links rules entries tally)
+    sound-tests tally e =
+        ap₂ _&&_ e (right-up n m (bit rows) (upOf n links) rules entries rows-links)
         ∙ sym (sound-by-steps n m (lent links rules entries tally) size (omega arith))
+
+    pub links-right : (tally : List ℕ) {r : Bool} → true ≡ well-linked n links → r ≡ right n m (bit rows) rules entries → r ≡ sound n m (lent links rules entries tally)
+    links-right tally e q = q ∙ sound-tests tally e
 
     pub sound-means : (tally : List ℕ) → sound n m (lent links rules entries tally) ≡ true → Acyclic n (bit rows) × (entries ≡ entriesOf n m links rules)
     sound-means tally e =

@@ -1,3 +1,3 @@
 pub mod Examined
-pub mod Row
+pub mod Merged
 pub mod Settled

@@ -1,25 +1,24 @@
 // Soundness as code, and entries worked out after a change. One step of inheritance works out a row, the entries of one
-// kind for a range of marks: `examine` compares it with the table, and `settle` writes it, kind after kind in the order
-// of the ranks.
-use relation::close;
-use relation::load;
-use relation::mark;
+// kind for a range of marks: `examine` compares it with the table, and `settle` writes it, kind after kind, those above a
+// kind before it.
+use arranging::arrange;
+use deciding::decide_row;
+use deciding::rule_rows;
+use loading::load;
 use relation::next;
-use relation::test;
 use tables::decode;
 ghost use mathlib.Core.Path.{_≡_};
-ghost use mathlib.Core.Bool.{not};
-ghost use Prim.Native.Nat.{ℕ, _+_, _*_, _<_, _≤_};
+ghost use Prim.Native.Nat.{_+_, _*_, _<_, _≤_};
 ghost use lib.Dec.{eqb};
 ghost use lib.ListN.{getD, length, set};
-ghost use Rattle.inheritance.specs.Above.{Acyclic, count};
-ghost use Rattle.relation.specs.Bit.{bit};
-ghost use Rattle.relation.specs.Closed.{Closed};
+ghost use Rattle.relation.specs.Bit.{bit, Blank};
 ghost use Rattle.tables.specs.Step.{stepped, right};
 ghost use Rattle.tables.specs.Tables.{all-below, byte-right, differ};
+ghost use Rattle.deciding.specs.Deciding.{Prepared};
 ghost use Rattle.settling.specs.Examined.{LinksExamined, Examined};
-ghost use Rattle.settling.specs.Row.{merged, ruled, given, Row, Sized, Marks};
-ghost use Rattle.settling.specs.Settled.{Written, Round, Awaiting, Settled, Ranked};
+ghost use Rattle.deciding.specs.Row.{Row};
+ghost use Rattle.settling.specs.Merged.{merged, ruled, given, Sized, Marks};
+ghost use Rattle.settling.specs.Settled.{Written, Awaiting, Settled};
 
 // One more parent's entry b, folded into a, what the parents so far give kind c.
 fn merge(c: u16, a: u16, b: u16) -> u16
@@ -106,9 +105,13 @@ fn merge_parents(
     }
 }
 
-// The entries of kind c for the marks from lo to below hi, worked out from its own rules and its parents' entries.
+// The entries of kind c for the marks from lo to below hi, worked out from its own rules, its parents' entries and, where
+// these differ, the kinds left.
 fn inherit_row(
     rows: &[u64; 256],
+    order: &[u8; 128],
+    reach: &[u64; 256],
+    ruled: &[u64; 256],
     n: usize,
     m: usize,
     lo: usize,
@@ -118,12 +121,13 @@ fn inherit_row(
     c: usize,
     out: &mut [u16; 64],
 )
-    requires { ⌜ Sized n m (now rules) (now entries) ⌝ }
+    requires { ⌜ (Sized n m (now rules) (now entries)) × (Prepared n m (now rows) (now rules) (now order) (now reach) (now ruled)) ⌝ }
     requires { ⌜ (Marks m lo hi) × (c < n) ⌝ }
     ensures { λ _. ⌜ Row lo hi (stepped n m (bit (now (rows .entry))) (now (rules .entry)) (now (entries .entry)) c) (now (out .exit)) ⌝ }
 {
     merge_parents(rows, n, m, lo, hi, entries, c, out);
     own_row(c, m, lo, hi, rules, out);
+    decide_row(order, reach, ruled, lo, hi, c, out);
 }
 
 // Whether the entries of kind c are those of the row.
@@ -138,15 +142,37 @@ fn row_right(m: usize, entries: &[u16], c: usize, out: &[u16; 64]) -> bool
     same
 }
 
-// Whether every entry is what its kind's own rules and its parents' entries give.
-pub fn entries_right(rows: &[u64; 256], n: usize, m: usize, rules: &[u16], entries: &[u16]) -> bool
-    requires { ⌜ Sized n m (now rules) (now entries) ⌝ }
+// Whether every entry is what its kind's own rules, its parents' entries and the kinds left give.
+pub fn entries_right(
+    rows: &[u64; 256],
+    order: &[u8; 128],
+    reach: &[u64; 256],
+    ruled: &[u64; 256],
+    n: usize,
+    m: usize,
+    rules: &[u16],
+    entries: &[u16],
+) -> bool
+    requires { ⌜ (Sized n m (now rules) (now entries)) × (Prepared n m (now rows) (now rules) (now order) (now reach) (now ruled)) ⌝ }
     ensures { λ r. ⌜ r ≡ right n m (bit (now (rows .entry))) (now (rules .entry)) (now (entries .entry)) ⌝ }
 {
     let mut out = [0u16; 64];
     let mut all = true;
     for c in 0..n {
-        inherit_row(rows, n, m, 0, m, rules, entries, c, &mut out);
+        inherit_row(
+            rows,
+            order,
+            reach,
+            ruled,
+            n,
+            m,
+            0,
+            m,
+            rules,
+            entries,
+            c,
+            &mut out,
+        );
         all = all & row_right(m, entries, c, &out);
     }
     all
@@ -163,32 +189,29 @@ fn bytes_right(links: &[u8]) -> bool
     good
 }
 
-// Whether no kind below n is in its own row.
-fn none_in_own_row(rows: &[u64; 256], n: usize) -> bool
-    requires { ⌜ n ≤ 128 ⌝ }
-    ensures { λ r. ⌜ r ≡ all-below (λ c. not (bit (now (rows .entry)) c c)) n ⌝ }
+// Whether every link byte is 0 or 1 and no kind is above itself. Where the bytes are so, the links are left in the rows. If
+// both hold, the kinds are left in an order in which each stands before those above it, and in reach the places of the kinds
+// at or above each. Rows and reach were blank.
+pub fn examine_links(
+    n: usize,
+    links: &[u8],
+    rows: &mut [u64; 256],
+    order: &mut [u8; 128],
+    reach: &mut [u64; 256],
+) -> bool
+    requires { ⌜ (n ≤ 128) × (length (now links) ≡ n * n) × (Blank (now rows)) × (length (now order) ≡ 128) × (Blank (now reach)) ⌝ }
+    ensures { λ r. ⌜ LinksExamined n (now (links .entry)) (now (rows .exit)) (now (order .exit)) (now (reach .exit)) r ⌝ }
 {
-    let mut free = true;
-    for c in 0..n {
-        free = free & !test(rows, c, c);
+    if !bytes_right(links) {
+        return false;
     }
-    free
-}
-
-// Whether every link byte is 0 or 1 and no kind is above itself. The links are left in the rows, and who is above whom
-// in closed.
-pub fn examine_links(n: usize, links: &[u8], rows: &mut [u64; 256], closed: &mut [u64; 256]) -> bool
-    requires { ⌜ (n ≤ 128) × (length (now links) ≡ n * n) ⌝ }
-    ensures { λ r. ⌜ LinksExamined n (now (links .entry)) (now (rows .exit)) (now (closed .exit)) r ⌝ }
-{
     load(links, n, rows);
-    *closed = *rows;
-    close(closed, n);
-    bytes_right(links) & none_in_own_row(closed, n)
+    arrange(rows, n, order, reach)
 }
 
-// Whether the tables are sound: every link byte is 0 or 1, no kind is above itself, every entry equals its lookup.
-// The links are left in the rows, and who is above whom in closed.
+// Whether the tables are sound: every link byte is 0 or 1, no kind is above itself, every entry equals its lookup. If so,
+// the links are left in the rows, with the order, the kinds at or above each and the rule kinds of each mark. Rows, reach
+// and ruled were blank.
 pub fn examine(
     n: usize,
     m: usize,
@@ -196,39 +219,19 @@ pub fn examine(
     rules: &[u16],
     entries: &[u16],
     rows: &mut [u64; 256],
-    closed: &mut [u64; 256],
+    order: &mut [u8; 128],
+    reach: &mut [u64; 256],
+    ruled: &mut [u64; 256],
 ) -> bool
     requires { ⌜ (Sized n m (now rules) (now entries)) × (length (now links) ≡ n * n) ⌝ }
-    ensures { λ r. ⌜ Examined n m (now (links .entry)) (now (rules .entry)) (now (entries .entry)) (now (rows .exit)) (now (closed .exit)) r ⌝ }
+    requires { ⌜ (Blank (now rows)) × (length (now order) ≡ 128) × (Blank (now reach)) × (Blank (now ruled)) ⌝ }
+    ensures { λ r. ⌜ Examined n m (now (links .entry)) (now (rules .entry)) (now (entries .entry)) (now (rows .exit)) (now (order .exit)) (now (reach .exit)) (now (ruled .exit)) r ⌝ }
 {
-    examine_links(n, links, rows, closed) & entries_right(rows, n, m, rules, entries)
-}
-
-// How many kinds below n are in row c.
-fn rank(rows: &[u64; 256], n: usize, c: usize) -> usize
-    requires { ⌜ (n ≤ 128) × (c < 128) ⌝ }
-    ensures { λ r. ⌜ r ≡ count (bit (now (rows .entry)) c) n ⌝ }
-{
-    let mut above = 0;
-    let mut p = next(rows, c, 0);
-    while p < n {
-        above += 1;
-        p = next(rows, c, p + 1);
+    if !examine_links(n, links, rows, order, reach) {
+        return false;
     }
-    above
-}
-
-// Each visited kind is put into the row of its rank, whatever was there.
-fn rank_all(closed: &[u64; 256], n: usize, visited: &[u8; 128], ranked: &mut [u64; 256])
-    requires { ⌜ (n ≤ 128) × ((c : ℕ) → c < n → count (bit (now closed) c) n < 128) ⌝ }
-    ensures { λ _. ⌜ Ranked n n (bit (now (closed .entry))) (now (visited .entry)) (now (ranked .exit)) ⌝ }
-{
-    *ranked = [0u64; 256];
-    for c in 0..n {
-        if visited[c] == 1 {
-            mark(ranked, rank(closed, n, c), c);
-        }
-    }
+    rule_rows(rules, n, m, order, ruled);
+    entries_right(rows, order, reach, ruled, n, m, rules, entries)
 }
 
 // An entry is written. 1 where it was another.
@@ -253,9 +256,12 @@ fn write_row(m: usize, lo: usize, hi: usize, c: usize, out: &[u16; 64], entries:
     count
 }
 
-// The entries of kind c are worked out from its own rules and its parents' entries, and written. How many were others.
+// The entries of kind c are worked out and written. How many were others.
 fn settle_kind(
     rows: &[u64; 256],
+    order: &[u8; 128],
+    reach: &[u64; 256],
+    ruled: &[u64; 256],
     n: usize,
     m: usize,
     lo: usize,
@@ -264,44 +270,36 @@ fn settle_kind(
     c: usize,
     entries: &mut [u16],
 ) -> u16
-    requires { ⌜ Sized n m (now rules) (now entries) ⌝ }
+    requires { ⌜ (Sized n m (now rules) (now entries)) × (Prepared n m (now rows) (now rules) (now order) (now reach) (now ruled)) ⌝ }
     requires { ⌜ (Marks m lo hi) × (c < n) ⌝ }
     ensures { λ r. ⌜ (r ≤ 64) × (Written m lo hi c (stepped n m (bit (now (rows .entry))) (now (rules .entry)) (now (entries .entry)) c) (now (entries .entry)) (now (entries .exit)) r) ⌝ }
 {
     let mut out = [0u16; 64];
-    inherit_row(rows, n, m, lo, hi, rules, entries, c, &mut out);
+    inherit_row(
+        rows,
+        order,
+        reach,
+        ruled,
+        n,
+        m,
+        lo,
+        hi,
+        rules,
+        entries,
+        c,
+        &mut out,
+    );
     write_row(m, lo, hi, c, &out, entries)
 }
 
-// The visited kinds of rank r are worked out. How many entries were others.
-fn settle_round(
-    rows: &[u64; 256],
-    n: usize,
-    m: usize,
-    lo: usize,
-    hi: usize,
-    ranked: &[u64; 256],
-    r: usize,
-    rules: &[u16],
-    entries: &mut [u16],
-) -> u16
-    requires { ⌜ (Sized n m (now rules) (now entries)) × (Marks m lo hi) × (r < n) × (Acyclic n (bit (now rows))) ⌝ }
-    ensures { λ k. ⌜ Round n m lo hi (bit (now (rows .entry))) (now (rules .entry)) (now (ranked .entry)) r (now (entries .entry)) (now (entries .exit)) k ⌝ }
-{
-    let mut count = 0;
-    let mut c = next(ranked, r, 0);
-    while c < n {
-        count += settle_kind(rows, n, m, lo, hi, rules, c, entries);
-        c = next(ranked, r, c + 1);
-    }
-    count
-}
-
 // The visited kinds' entries for the marks from lo to below hi become their lookups, where those of the other kinds
-// are theirs already. How many entries were others. The rows have the links, and closed has who is above whom.
+// are theirs already: the kinds are gone through from the last place to the first, so that those above a kind come before
+// it. How many entries were others.
 pub fn settle(
     rows: &[u64; 256],
-    closed: &[u64; 256],
+    order: &[u8; 128],
+    reach: &[u64; 256],
+    ruled: &[u64; 256],
     n: usize,
     m: usize,
     lo: usize,
@@ -310,16 +308,16 @@ pub fn settle(
     rules: &[u16],
     entries: &mut [u16],
 ) -> u16
-    requires { ⌜ (Sized n m (now rules) (now entries)) × (Marks m lo hi) ⌝ }
-    requires { ⌜ (Closed n n (now rows) (now closed)) × (Acyclic n (bit (now rows))) ⌝ }
-    requires { ⌜ Awaiting n m lo hi (bit (now rows)) (now rules) (now visited) (now entries) ⌝ }
+    requires { ⌜ (Sized n m (now rules) (now entries)) × (Prepared n m (now rows) (now rules) (now order) (now reach) (now ruled)) ⌝ }
+    requires { ⌜ (Marks m lo hi) × (Awaiting n m lo hi (bit (now rows)) (now rules) (now visited) (now entries)) ⌝ }
     ensures { λ k. ⌜ Settled n m lo hi (bit (now (rows .entry))) (now (rules .entry)) (now (entries .entry)) (now (entries .exit)) k ⌝ }
 {
-    let mut ranked = [0u64; 256];
-    rank_all(closed, n, visited, &mut ranked);
     let mut count = 0;
-    for r in 0..n {
-        count += settle_round(rows, n, m, lo, hi, &ranked, r, rules, entries);
+    for t in 0..n {
+        let c = order[n - 1 - t] as usize;
+        if visited[c] == 1 {
+            count += settle_kind(rows, order, reach, ruled, n, m, lo, hi, rules, c, entries);
+        }
     }
     count
 }

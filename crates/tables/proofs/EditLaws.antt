@@ -9,30 +9,30 @@
 -- Assumes nothing.
 use mathlib.Core.Path.{_≡_, refl, sym, _∙_, ap, subst, fun-ext}
 use mathlib.Core.Logic.{_≢_, _↔_, _⊎_, inl, inr, ⊎-elim, by-cases}
-use mathlib.Core.Bool.{Bool, true, false, _&&_, _||_, not, true≢false, and-eq-true-iff}
+use mathlib.Core.Bool.{Bool, true, false, _||_, not, true≢false, and-eq-true-iff}
 use mathlib.Core.List.{List}
 use Prim.Native.Nat.{ℕ, _+_, _*_, _<_, _≤_}
 use native.Mathlib.Decide.{ℕ-discrete}
 use native.Mathlib.Omega.{arith}
-use borrow.Author.Tests.{eqb-true, eq-eqb, ne-eqb, eqb-false, ltb-true, not-true}
+use borrow.Author.Tests.{ne-eqb, eqb-false, ltb-true, not-true}
 use lib.Arith.{digits-lt}
 use lib.Dec.{eqb, ltb}
 use lib.ListN.{length, getD, set, length-set}
 use lib.Seq.{getD-set-same, getD-set-other}
 use Rattle.inheritance.specs.declared.Lookup.{Lookup}
 use Rattle.inheritance.specs.declared.Lookup.the-variants.{None, Rule, Dispute}
-use Rattle.inheritance.specs.Above.{Chain, link, step, Acyclic, above, count}
-use Rattle.inheritance.specs.Lookup.{lookup, Below}
-use Rattle.inheritance.proofs.AboveLaws.{SameBut, no-chain, fewer-chain, link-acyclic, unlink-fewer, unlink-acyclic}
-use Rattle.inheritance.proofs.TouchLaws.{below-chain, below-carries, touched-below, link-keeps-parent, link-unseen}
+use Rattle.inheritance.specs.Above.{Upto, Acyclic, above, count}
+use Rattle.inheritance.specs.Lookup.{lookup}
+use Rattle.inheritance.proofs.AboveLaws.{SameBut, no-chain, upto-step, chain-above, link-acyclic, unlink-acyclic}
+use Rattle.inheritance.proofs.TouchLaws.{below-carries, upto-carries, rule-touched, link-keeps-parent, link-touched}
 use Rattle.tables.specs.Entry.{entryOf}
 use Rattle.tables.specs.Reply.{given}
-use Rattle.tables.specs.Tables.{Tables, shaped, upOf, ownOf, entryAt, grid, entriesOf, sound, differing, tallied}
+use Rattle.tables.specs.Tables.{Tables, shaped, upOf, ownOf, entryAt, grid, entriesOf, sound, differing}
 use Rattle.tables.specs.Touch.{RuleTouches, LinkTouches}
 use Rattle.tables.specs.Edit.{OnePlace, apart, Edited, RuleEdited, LinkEdited}
-use Rattle.tables.specs.Calls.{Outcome, accepted, addRule, takeRule, addLink, takeLink}
+use Rattle.tables.specs.Calls.{accepted, addRule, takeRule, addLink, takeLink}
 use Rattle.tables.proofs.CallLaws.{check-given}
-use Rattle.tables.proofs.ShapeLaws.{Shaped, sized-facts}
+use Rattle.tables.proofs.ShapeLaws.{sized-facts}
 use Rattle.tables.proofs.SoundLaws.{Sound, sound-means, means-sound, length-entriesOf, entriesOf-at, entries-looked}
 use Rattle.tables.proofs.TableLaws.{place-split, differing-self, differing-count}
 
@@ -129,8 +129,7 @@ module _ (n m : ℕ) (t : Tables) (size : length (t .entries) ≡ n * m) (before
         touched k j hk hj differ =
             let apart = lookups-differ (t .links) ruled returned is k j hk hj differ in
             record {
-              below = touched-below n up up (ownOf m (t .rules) j) (ownOf m ruled j) (before .acyclic) (before .acyclic) kind (λ c p hc hp ne. refl)
-                  (λ c hc ne. own-kept j c hj (inl ne)) k hk apart .0;
+              below = rule-touched n up (before .acyclic) (ownOf m (t .rules) j) (ownOf m ruled j) kind (λ c hc ne. own-kept j c hj (inl ne)) kind-in k hk apart .0;
               the-mark = by-cases (ℕ-discrete j mark) (λ same. same)
                   (λ ne. absurd (apart (ap (λ (own : ℕ → Bool). lookup n up own k) (fun-ext (λ c. own-kept j c hj (inr ne))))));
             }
@@ -172,8 +171,8 @@ module _ (n m : ℕ) (t : Tables) (size : length (t .entries) ≡ n * m) (before
         (rw (getD-set-same (t .links) (child * n + parent) byte 0 (rw links-size (digits-lt child-in parent-in))) small))
         (λ ne. rw (getD-set-other (t .links) (child * n + parent) i byte 0 ne) (before .bytes i h))
 
-    -- `apart`: the parent is not below the child
-    module _ (acyclic : Acyclic n (upOf n linked)) (apart : (own : ℕ → Bool) → ¬ Below n (upOf n linked) own child parent) where
+    -- `apart`: before the edit the parent is not the child, nor below it
+    module _ (acyclic : Acyclic n (upOf n linked)) (apart : ¬ Upto n (upOf n (t .links)) parent child) where
       pub link-edits : (returned : ℕ) → accepted n m t linked (t .rules) .reply ≡ given returned
           → LinkEdited n m child parent byte t (accepted n m t linked (t .rules) .tables) returned
       unfolding accepted entryAt
@@ -195,42 +194,32 @@ module _ (n m : ℕ) (t : Tables) (size : length (t .entries) ≡ n * m) (before
           same-up : (c p : ℕ) → c < n → p < n → c ≢ child → up c p ≡ up′ c p
           same-up c p hc hp ne = up-kept c p hp (inl ne)
 
-          -- an entry of the parent that is 0, or an own rule of the child, keeps every lookup
-          unseen : (j k : ℕ) → k < n → (own j child ≡ true) ⊎ (lookup n up (own j) parent ≡ None) → lookup n up (own j) k ≡ lookup n up′ (own j) k
-          unseen j k hk why =
-              link-unseen n up up′ (own j) (own j) (before .acyclic) acyclic child parent child-in parent-in same-up
-              (λ p hp ne. up-kept child p hp (inr ne)) (λ c hc. refl) (apart (own j)) why k hk
-
           parent-kept : (j : ℕ) → j < m → getD (t .entries) (parent * m + j) 0 ≡ getD (accepted n m t linked (t .rules) .tables .entries) (parent * m + j) 0
           parent-kept j hj =
               entry-before linked (t .rules) returned is parent j parent-in hj
-              ∙ ap entryOf (link-keeps-parent n up up′ (own j) (own j) (before .acyclic) acyclic child parent child-in parent-in same-up
-              (λ p hp ne. up-kept child p hp (inr ne)) (λ c hc. refl) (apart (own j)))
+              ∙ ap entryOf (link-keeps-parent n up up′ (own j) (before .acyclic) acyclic child parent same-but child-in parent-in apart)
               ∙ sym (entry-after linked (t .rules) returned is parent j parent-in hj)
-
-          no-own : (b : Bool) {x : Bool} → x ≡ b → (x ≡ true → ⊥) → x ≡ false
-          no-own true e h = absurd (h e)
-          no-own false e h = e
 
           touched : (k j : ℕ) → k < n → j < m → getD (t .entries) (k * m + j) 0 ≢ getD (accepted n m t linked (t .rules) .tables .entries) (k * m + j) 0
               → LinkTouches n m child parent t k j
           touched k j hk hj differ =
-              let differs = lookups-differ linked (t .rules) returned is k j hk hj differ in
+              let (below, bare, some) = link-touched n up up′ (own j) (before .acyclic) acyclic child parent same-but child-in parent-in apart k hk
+              (lookups-differ linked (t .rules) returned is k j hk hj differ) in
               record {
-                below = touched-below n up up′ (own j) (own j) (before .acyclic) acyclic child same-up (λ c hc ne. refl) k hk differs .0;
-                no-own-rule = no-own (own j child) refl (λ o. differs (unseen j k hk (inl o)));
-                parent-entry = λ zero. differs (unseen j k hk (inr (none-of-0 _ (sym (entry-before linked (t .rules) returned is parent j parent-in hj) ∙ zero))));
+                below = below;
+                no-own-rule = bare;
+                parent-entry = λ zero. some (none-of-0 _ (sym (entry-before linked (t .rules) returned is parent j parent-in hj) ∙ zero));
               }
 
           same-reading : (k j : ℕ) → k < n → j < m → LinkTouches n m child parent t k j ↔ LinkTouches n m child parent (accepted n m t linked (t .rules) .tables) k j
           same-reading k j hk hj = (
             λ r. record {
-              below = below-carries n up up′ (own j) (own j) child same-up (λ c hc ne. refl) hk (r .below);
+              below = upto-carries n up up′ child same-up hk (r .below);
               no-own-rule = r .no-own-rule;
               parent-entry = λ zero. r .parent-entry (parent-kept j hj ∙ zero);
             },
             λ r. record {
-              below = below-carries n up′ up (own j) (own j) child (λ c p hc hp ne. sym (same-up c p hc hp ne)) (λ c hc ne. refl) hk (r .below);
+              below = upto-carries n up′ up child (λ c p hc hp ne. sym (same-up c p hc hp ne)) hk (r .below);
               no-own-rule = r .no-own-rule;
               parent-entry = λ zero. r .parent-entry (sym (parent-kept j hj) ∙ zero);
             },
@@ -315,19 +304,13 @@ module _ (n m : ℕ) (t : Tables) where
           → accepted n m t (set (t .links) (child * n + parent) 1) (t .rules) .reply ≡ given returned
           → LinkEdited n m child parent 1 t (accepted n m t (set (t .links) (child * n + parent) 1) (t .rules) .tables) returned
       go child-in parent-in s no-cycle is =
-          link-edits n m t (s .entries-size) (s .before) child parent 1 child-in parent-in (s .links-size) (omega arith) acyclic apart returned is
+          link-edits n m t (s .entries-size) (s .before) child parent 1 child-in parent-in (s .links-size) (omega arith)
+          (added-acyclic n m t s child parent child-in parent-in no-cycle) apart returned is
         where
-          up′ : ℕ → ℕ → Bool
-          up′ = upOf n (set (t .links) (child * n + parent) 1)
-
-          acyclic : Acyclic n up′
-          acyclic = added-acyclic n m t s child parent child-in parent-in no-cycle
-
-          -- a chain from the parent up to the child and the new link would close a cycle
-          apart : (own : ℕ → Bool) → ¬ Below n up′ own child parent
-          apart own b = ⊎-elim (λ same. eqb-false _ _ (or-false (eqb parent child) no-cycle .0) same)
-              (λ chain. no-chain n up′ acyclic child-in (step parent-in (changed-there n m t s child parent child-in parent-in 1 (omega arith)) chain))
-              (below-chain n up′ own b)
+          apart : ¬ Upto n (upOf n (t .links)) parent child
+          apart =
+              let (ne, free) = or-false (eqb parent child) no-cycle in
+              ⊎-elim (eqb-false _ _ ne) (λ chain. true≢false (sym (chain-above n (upOf n (t .links)) chain) ∙ free))
 
   pub takeLink-edits : (child parent returned : ℕ) → takeLink n m t child parent .reply ≡ given returned
       → LinkEdited n m child parent 0 t (takeLink n m t child parent .tables) returned
@@ -343,31 +326,9 @@ module _ (n m : ℕ) (t : Tables) where
           → accepted n m t (set (t .links) (child * n + parent) 0) (t .rules) .reply ≡ given returned
           → LinkEdited n m child parent 0 t (accepted n m t (set (t .links) (child * n + parent) 0) (t .rules) .tables) returned
       go child-in parent-in s there is =
-          link-edits n m t (s .entries-size) (s .before) child parent 0 child-in parent-in (s .links-size) (omega arith) acyclic apart returned is
-        where
-          up : ℕ → ℕ → Bool
-          up = upOf n (t .links)
-
-          up′ : ℕ → ℕ → Bool
-          up′ = upOf n (set (t .links) (child * n + parent) 0)
-
-          gone : up′ child parent ≡ false
-          gone = changed-there n m t s child parent child-in parent-in 0 (omega arith)
-
-          same : SameBut n up up′ child parent
-          same = changed-but n m t s child parent child-in parent-in 0 (omega arith)
-
-          acyclic : Acyclic n up′
-          acyclic = taken-acyclic n m t s child parent child-in parent-in
-
-          -- a chain from the parent up to the child was there before, and closed a cycle with the link
-          round : Chain n up′ parent child → ⊥
-          round chain = no-chain n up (s .before .acyclic) child-in (step parent-in there (fewer-chain n up up′ (unlink-fewer n up up′ child parent same gone) parent-in chain))
-
-          apart : (own : ℕ → Bool) → ¬ Below n up′ own child parent
-          apart own b =
-              let above : Chain n up child parent = link parent-in there in
-              ⊎-elim (λ is-child. no-chain n up (s .before .acyclic) child-in (rw is-child at above)) round (below-chain n up′ own b)
+          link-edits n m t (s .entries-size) (s .before) child parent 0 child-in parent-in (s .links-size) (omega arith)
+          (taken-acyclic n m t s child parent child-in parent-in)
+          (λ round. no-chain n (upOf n (t .links)) (s .before .acyclic) child-in (upto-step n (upOf n (t .links)) parent-in there round)) returned is
 
   -- with another handling number every kind has the own rules it had, and so every lookup is the same
   pub replaced-none : (kind mark handling returned : ℕ) → ownOf m (t .rules) mark kind ≡ true

@@ -1,5 +1,5 @@
 -- Entries that each follow by one step from those of the parents are the lookups, and what code can test is soundness.
---     Stepped                            each entry is what its kind's own rule and its parents' entries give
+--     Stepped                            each entry is what its kind's own rule, the kinds left and its parents' entries give
 --     Looked                             each entry is its lookup
 --     right-stepped, stepped-right       `Stepped` is the test `right`
 --     step-looked                        where no kind is above itself: a kind whose parents have their lookups has its own by one step
@@ -8,7 +8,7 @@
 --     Sound, sound-means, means-sound    what `sound` tests, as facts
 --     sound-by-steps                     the tables are sound exactly if they are well linked and every entry follows by one step
 -- Assumes nothing.
-use mathlib.Core.Path.{_≡_, refl, sym, _∙_, ap, subst}
+use mathlib.Core.Path.{_≡_, refl, sym, _∙_, ap}
 use mathlib.Core.Bool.{Bool, true, false, _&&_, not, and-eq-true-iff}
 use mathlib.Core.List.{List}
 use Prim.Native.Nat.{ℕ, _+_, _*_, _<_, _≤_}
@@ -21,10 +21,14 @@ use lib.Seq.{ext-getD}
 use Rattle.inheritance.specs.declared.Lookup.{Lookup}
 use Rattle.inheritance.specs.declared.Lookup.the-variants.{None, Rule, Dispute}
 use Rattle.inheritance.specs.Above.{Acyclic}
-use Rattle.inheritance.specs.Lookup.{inherit, lookup}
-use Rattle.inheritance.proofs.LookupLaws.{InRange, inherit-cong, inherit-parents, inherit-keeps, lookup-range, unfold-lookup, unique}
+use Rattle.inheritance.specs.Lookup.{left, lookup}
+use Rattle.inheritance.specs.Step.{step}
+use Rattle.inheritance.proofs.MeetLaws.{given-same}
+use Rattle.inheritance.proofs.LeftLaws.{same-bool, left-agree}
+use Rattle.inheritance.proofs.LookupLaws.{InRange, lookup-range, unique-by}
+use Rattle.inheritance.proofs.StepLaws.{step-same, step-keeps, lookup-step}
 use Rattle.tables.specs.Entry.{entryOf, lookupOf}
-use Rattle.tables.specs.Tables.{Tables, upOf, ownOf, entryAt, entriesOf, all-below, byte-right, kind-free, entry-right, well-linked, sound}
+use Rattle.tables.specs.Tables.{Tables, upOf, ownOf, entryAt, entriesOf, all-below, byte-right, entry-right, well-linked, sound}
 use Rattle.tables.specs.Step.{read, stepped, kind-right, right}
 use Rattle.tables.proofs.EntryLaws.{Coded, entry-lookup, coded-none, coded-rule, coded-dispute, coded-read}
 use Rattle.tables.proofs.TableLaws.{below-true, true-below, below-same, length-grid, grid-at, grid-ext}
@@ -34,12 +38,6 @@ Stepped n m up rules entries = (c j : ℕ) → c < n → j < m → getD entries 
 
 abbrev pub Looked : (n m : ℕ) (up : ℕ → ℕ → Bool) (rules entries : List ℕ) → Type 0
 Looked n m up rules entries = (c j : ℕ) → c < n → j < m → getD entries (c * m + j) 0 ≡ entryAt n m up rules c j
-
--- both tests are true under the same conditions
-pub same-bool : (a b : Bool) → (a ≡ true → b ≡ true) → (b ≡ true → a ≡ true) → a ≡ b
-same-bool true b f g = sym (f refl)
-same-bool false true f g = g refl
-same-bool false false f g = refl
 
 -- ---- the test of one step
 
@@ -56,7 +54,9 @@ module _ (n m : ℕ) (up : ℕ → ℕ → Bool) (rules entries : List ℕ) wher
 module _ (n m : ℕ) (up up′ : ℕ → ℕ → Bool) (rules entries : List ℕ) (agree : (c p : ℕ) → c < n → p < n → up c p ≡ up′ c p) where
   pub stepped-up : (c j : ℕ) → c < n → stepped n m up rules entries c j ≡ stepped n m up′ rules entries c j
   unfolding stepped
-  stepped-up c j hc = ap entryOf (inherit-parents n up up′ (ownOf m rules j) (read m entries j) c (λ p hp. agree c p hc hp))
+  stepped-up c j hc =
+      ap entryOf (step-same n up up′ (ownOf m rules j) (ownOf m rules j) (read m entries j) (read m entries j) c _ _ refl
+      (λ o ho. left-agree n up up′ agree (ownOf m rules j) (ownOf m rules j) (λ _ _. refl) c o hc ho) (λ p hp. given-same (up c p) _ _ (agree c p hc hp) (λ _. refl)))
 
   pub right-up : right n m up rules entries ≡ right n m up′ rules entries
   unfolding right kind-right
@@ -75,11 +75,11 @@ module _ (n m : ℕ) (up : ℕ → ℕ → Bool) (rules entries : List ℕ) (kin
   unfolding entryAt
   lookup-read p j hp = in-range-coded n (ownOf m rules j) (lookup n up (ownOf m rules j) p) kinds (lookup-range n up (ownOf m rules j) p hp)
 
-  inherit-coded : (c j : ℕ) → c < n → Coded (inherit n up (ownOf m rules j) (read m entries j) c)
+  step-coded : (c j : ℕ) → c < n → Coded (step n up (ownOf m rules j) (left n up (ownOf m rules j) c) (read m entries j) c)
   unfolding read
-  inherit-coded c j hc =
-      inherit-keeps n up (ownOf m rules j) Coded (read m entries j) c (λ _. coded-rule c (omega arith))
-      (λ _. (coded-none, coded-dispute c, λ p hp u. coded-read (getD entries (p * m + j) 0)))
+  step-coded c j hc =
+      step-keeps Coded n up (ownOf m rules j) (left n up (ownOf m rules j) c) (read m entries j) c hc
+      coded-none (λ o ho. coded-rule o (omega arith)) (coded-dispute c) (λ p hp u. coded-read (getD entries (p * m + j) 0))
 
   module _ (acyclic : Acyclic n up) where
     pub step-looked : (c j : ℕ) → c < n → ((p : ℕ) → p < n → up c p ≡ true → getD entries (p * m + j) 0 ≡ entryAt n m up rules p j)
@@ -87,9 +87,8 @@ module _ (n m : ℕ) (up : ℕ → ℕ → Bool) (rules entries : List ℕ) (kin
     unfolding stepped entryAt read
     step-looked c j hc parents =
         ap entryOf
-        (inherit-cong n up (ownOf m rules j) (read m entries j) (lookup n up (ownOf m rules j)) c
-        (λ _ p hp u. ap lookupOf (parents p hp u) ∙ lookup-read p j hp)
-        ∙ sym (unfold-lookup n up (ownOf m rules j) acyclic c hc))
+        (lookup-step n up (ownOf m rules j) acyclic (left n up (ownOf m rules j) c) (read m entries j) c hc (λ o ho. refl)
+        (λ p hp u. ap lookupOf (parents p hp u) ∙ lookup-read p j hp))
 
     pub looked-stepped : Looked n m up rules entries → Stepped n m up rules entries
     looked-stepped r c j hc hj = r c j hc hj ∙ sym (step-looked c j hc (λ p hp _. r p j hp hj))
@@ -99,7 +98,9 @@ module _ (n m : ℕ) (up : ℕ → ℕ → Bool) (rules entries : List ℕ) (kin
     stepped-looked w c j hc hj =
         sym (entry-lookup (getD entries (c * m + j) 0))
         ∙ ap entryOf
-        (unique n up (ownOf m rules j) acyclic (read m entries j) (λ d hd. ap lookupOf (w d j hd hj) ∙ inherit-coded d j hd) c hc)
+        (unique-by n up (ownOf m rules j) acyclic (λ v d. step n up (ownOf m rules j) (left n up (ownOf m rules j) d) v d)
+        (λ v d hd parents. lookup-step n up (ownOf m rules j) acyclic (left n up (ownOf m rules j) d) v d hd (λ o ho. refl) parents)
+        (read m entries j) (λ d hd. ap lookupOf (w d j hd hj) ∙ step-coded d j hd) c hc)
 
 -- ---- as the definitions have it
 

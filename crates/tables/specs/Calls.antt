@@ -1,7 +1,7 @@
 -- What each call answers and what it leaves in the tables, as document 01 has it, paragraph by paragraph. The checks of a call stand in the paper's
 -- order, each with the number of its refusal.
 --     openBook, addRule, takeRule, addLink, takeLink, find, inspect, refresh
---     PartiesGive    parties alone is stated by a property: its refusals are exact, and what it gives are some two different rule kinds seen
+--     PartiesGive    parties alone is stated by a property: its refusals are exact, and what it gives are some two different kinds left
 -- Assumes nothing.
 use mathlib.Core.Path.{_≡_}
 use mathlib.Core.Logic.{_≢_}
@@ -11,7 +11,7 @@ use Prim.Native.Nat.{ℕ, zero, suc, _+_, _*_, _-_}
 use lib.Dec.{eqb, leb, ltb}
 use lib.ListN.{getD, replicate, set}
 use Rattle.inheritance.specs.Above.{above}
-use Rattle.inheritance.specs.Lookup.{Seen}
+use Rattle.inheritance.specs.Lookup.{Left}
 use Rattle.tables.specs.Reply.{Reply, refused, given, Finding, Fault, TwoKinds}
 use Rattle.tables.specs.Tables.{Tables, lent, shaped, upOf, ownOf, entriesOf, all-below, byte-right, kind-free, entry-right, well-linked, sound, differing, tallied}
 
@@ -121,8 +121,8 @@ Check number false reply next = reply ≡ refused number
 pub record TwoParties (n m : ℕ) (t : Tables) (kind mark : ℕ) (reply : Reply TwoKinds) : Type 0 where
   pub pair : TwoKinds
   pub gives : reply ≡ given pair
-  pub one-seen : Seen n (upOf n (t .links)) (ownOf m (t .rules) mark) kind (pair .one)
-  pub other-seen : Seen n (upOf n (t .links)) (ownOf m (t .rules) mark) kind (pair .other)
+  pub one-left : Left n (upOf n (t .links)) (ownOf m (t .rules) mark) kind (pair .one)
+  pub other-left : Left n (upOf n (t .links)) (ownOf m (t .rules) mark) kind (pair .other)
   pub different : pair .one ≢ pair .other
 
 abbrev pub PartiesGive : (n m : ℕ) → Tables → (kind mark : ℕ) → Reply TwoKinds → Type 0

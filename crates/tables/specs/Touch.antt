@@ -1,13 +1,13 @@
--- What an edit can touch, as document 01 has it under that head, on the tables before the edit or after it. An entry at (k, j) may differ only
--- where the edit touches it.
---     RuleTouches    the edit is of the rule of kind c for a mark
---     LinkTouches    the edit is of the link from child c to parent p
+-- What an edit can touch, on the tables before the edit or after it. An entry at (k, j) may differ only where the edit touches it.
+--     RuleTouches    the edit is of the rule of kind c for a mark: as document 01 has it
+--     LinkTouches    the edit is of the link from child c to parent p: as request U6 has it
 -- Assumes nothing.
 use mathlib.Core.Path.{_≡_}
 use mathlib.Core.Logic.{_≢_}
 use mathlib.Core.Bool.{false}
 use Prim.Native.Nat.{ℕ, _+_, _*_}
 use lib.ListN.{getD}
+use Rattle.inheritance.specs.Above.{Upto}
 use Rattle.inheritance.specs.Lookup.{Below}
 use Rattle.tables.specs.Tables.{Tables, upOf, ownOf}
 
@@ -16,8 +16,8 @@ pub record RuleTouches (n m : ℕ) (c mark : ℕ) (t : Tables) (k j : ℕ) : Typ
   pub below : Below n (upOf n (t .links)) (ownOf m (t .rules) j) c k
   pub the-mark : j ≡ mark
 
--- the same; and c has no own rule for j, and the parent's entry for it is not 0
+-- k is c or below it, past own rules too; k has no own rule for j, and the parent's entry for it is not 0
 pub record LinkTouches (n m : ℕ) (c p : ℕ) (t : Tables) (k j : ℕ) : Type 0 where
-  pub below : Below n (upOf n (t .links)) (ownOf m (t .rules) j) c k
-  pub no-own-rule : ownOf m (t .rules) j c ≡ false
+  pub below : Upto n (upOf n (t .links)) k c
+  pub no-own-rule : ownOf m (t .rules) j k ≡ false
   pub parent-entry : getD (t .entries) (p * m + j) 0 ≢ 0

@@ -1,6 +1,6 @@
 -- `propagation::touched` meets its contract: the walk starts with no kind visited. Assumes nothing.
 use mathlib.Core.Path.{refl}
-use Rattle.relation.proofs.Filling.{getD-zeros}
+use Rattle.relation.proofs.Zeros.{getD-zeros}
 use Rattle.propagation.proofs.Marks.{ready-cleared}
 use Rattle.propagation.proofs.Walk.{touched}
 use Rattle.propagation.proofs.touched.Statement.{statement}

@@ -1,5 +1,5 @@
 -- `relation::turn` meets its contract. The loop's invariant: the rows below c are turned, and nothing else is there. Assumes nothing.
-use mathlib.Core.Path.{_≡_, refl}
+use mathlib.Core.Path.{_≡_}
 use Prim.Native.Nat.{_-_, _≤_}
 use native.Mathlib.Omega.{arith}
 use Rattle.relation.specs.Bit.{Added}
@@ -14,7 +14,7 @@ abbrev μ-loop : tie.MeasureT-loop
 μ-loop rows n turned₀ c₀ turned c = n - c
 
 loop-holds : tie.Need-loop-holds Inv-loop μ-loop
-loop-holds c = (omega arith, turn-none _ _ 256 refl)
+loop-holds c = (omega arith, turn-none _ _ (c .pre .1))
 
 turn-row-requires : tie.Need-turn-row-requires Inv-loop μ-loop
 turn-row-requires c κs = (omega arith, omega arith, c .before .before .loop .inv .1 .long)
@@ -30,8 +30,8 @@ loop-again c = (omega arith, turn-more _ _ _ (c .before .before .before .loop .i
 
 returns : tie.Need-returns Inv-loop μ-loop
 returns c =
-    let end : c .before .loop .c ≡ c .before .before .before .args .n = omega arith in
-    turned _ _ 256 (rw end at (c .before .loop .inv .1))
+    let end : c .before .loop .c ≡ c .before .before .args .n = omega arith in
+    turned _ _ (c .before .before .pre .1) (rw end at (c .before .loop .inv .1))
 
 pub turn-spec : {M : Type 1} → statement M
 turn-spec = tie.close (tie.spec Inv-loop μ-loop loop-holds turn-row-requires add-c loop-less loop-again returns)

@@ -6,15 +6,16 @@ use Rattle.tables.specs.Step.{right, kind-right}
 use Rattle.tables.specs.Tables.{all-below}
 use Rattle.tables.proofs.TableLaws.{below-suc}
 use Rattle.relation.specs.Bit.{bit}
-use Rattle.settling.proofs.Rows.{row-in, row-kind}
+use Rattle.deciding.proofs.Rows.{row-in}
+use Rattle.settling.proofs.Giving.{row-kind}
 use Rattle.settling.proofs.entries_right.Statement.{statement}
 use Rattle.settling.proofs.entries_right.Tie as tie
 
 abbrev Inv-loop : tie.InvT-loop
-Inv-loop rows n m rules entries out₀ all₀ c₀ out all c = (c ≤ n) × (all ≡ all-below (kind-right n m (bit rows) rules entries) c)
+Inv-loop rows order reach ruled n m rules entries out₀ all₀ c₀ out all c = (c ≤ n) × (all ≡ all-below (kind-right n m (bit rows) rules entries) c)
 
 abbrev μ-loop : tie.MeasureT-loop
-μ-loop rows n m rules entries out₀ all₀ c₀ out all c = n - c
+μ-loop rows order reach ruled n m rules entries out₀ all₀ c₀ out all c = n - c
 
 loop-holds : tie.Need-loop-holds Inv-loop μ-loop
 loop-holds c = (omega arith, unfold all-below in refl)
@@ -22,12 +23,12 @@ loop-holds c = (omega arith, unfold all-below in refl)
 inherit-row-requires : tie.Need-inherit-row-requires Inv-loop μ-loop
 inherit-row-requires c κs =
     let s = c .before .before .before .before .before in
-    (s .pre, (record { most = s .pre .marks; low = omega arith; high = omega arith }, omega arith))
+    (s .pre, (record { most = s .pre .0 .marks; low = omega arith; high = omega arith }, omega arith))
 
 row-right-requires : tie.Need-row-right-requires Inv-loop μ-loop
 row-right-requires c κs =
     let s = c .before .before .before .before .before .before .before in
-    (s .pre .marks, row-in _ _ _ (s .pre .entries-size) (omega arith))
+    (s .pre .0 .marks, row-in _ _ _ (s .pre .0 .entries-size) (omega arith))
 
 add-c : tie.Need-add-c Inv-loop μ-loop
 add-c c = omega arith

@@ -5,9 +5,10 @@ use mathlib.Core.Bool.{true}
 use Prim.Native.Nat.{_-_, _<_, _≤_, min}
 use native.Mathlib.Omega.{arith}
 use Rattle.relation.specs.Bit.{bit}
-use Rattle.settling.specs.Row.{given, Row}
+use Rattle.deciding.specs.Row.{Row}
+use Rattle.settling.specs.Merged.{given}
 use Rattle.settling.proofs.Giving.{row-empty, row-first, row-merge, row-next}
-use Rattle.settling.proofs.Rows.{row-in}
+use Rattle.deciding.proofs.Rows.{row-in}
 use Rattle.settling.proofs.merge_parents.Statement.{statement}
 use Rattle.settling.proofs.merge_parents.Tie as tie
 

@@ -3,8 +3,8 @@ use mathlib.Core.Path.{_≡_}
 use Prim.Native.Nat.{_+_, _*_, _-_, _≤_}
 use native.Mathlib.Omega.{arith}
 use lib.ListN.{getD}
-use Rattle.settling.specs.Row.{merged}
-use Rattle.settling.proofs.Rows.{Passed, passed-none, passed-store, row-passed}
+use Rattle.settling.specs.Merged.{merged}
+use Rattle.deciding.proofs.Rows.{Passed, passed-none, passed-store, row-passed}
 use Rattle.settling.proofs.merge_row.Statement.{statement}
 use Rattle.settling.proofs.merge_row.Tie as tie
 

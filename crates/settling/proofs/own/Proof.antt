@@ -1,7 +1,7 @@
 -- `settling::own` meets its contract. Assumes nothing.
 use mathlib.Core.Path.{refl}
 use borrow.Author.Tests.{eq-eqb, ne-eqb}
-use Rattle.settling.specs.Row.{ruled}
+use Rattle.settling.specs.Merged.{ruled}
 use borrow.Author.Needs.{needs}
 use Rattle.settling.proofs.own.Statement.{statement}
 use Rattle.settling.proofs.own.Tie as tie

@@ -1,72 +1,82 @@
--- `settling::settle` meets its contract. The loop's invariant: the kinds of ranks below r are worked out. Assumes nothing.
+-- `settling::settle` meets its contract. The loop's invariant: the kinds at the last t places are worked out. Assumes nothing.
 use mathlib.Core.Path.{_≡_, _∙_}
-use Prim.Native.Nat.{_*_, _-_, _≤_}
-use native.Mathlib.Nat.{zero-mul, suc-mul, mul-le-mul}
-use native.Mathlib.Numerals.{add-one}
+use mathlib.Core.Logic.{⊎-elim}
+use Prim.Native.Nat.{_-_, _≤_}
+use native.Mathlib.Nat.{mul-le-mul}
 use native.Mathlib.Omega.{arith}
 use Rattle.relation.specs.Bit.{bit}
-use Rattle.settling.specs.Settled.{Advanced}
-use Rattle.settling.proofs.Order.{advanced-none, advanced-trans, advanced-few, settled}
-use Rattle.settling.proofs.Ranking.{ranked-by, rank-room}
+use Rattle.settling.specs.Settled.{Settling}
+use Rattle.settling.proofs.Order.{settling-none, settling-kind, settling-skip, settling-few, settled}
 use Rattle.settling.proofs.settle.Statement.{statement}
 use Rattle.settling.proofs.settle.Tie as tie
 
 abbrev Inv-loop : tie.InvT-loop
-Inv-loop rows closed n m lo hi visited rules entries₀ ranked count₀ r₀ entries count r =
-    (r ≤ n) × Advanced n m lo hi (bit rows) rules visited 0 (r * n) entries₀ entries count
+Inv-loop rows order reach ruled n m lo hi visited rules entries₀ count₀ t₀ entries count t = (t ≤ n) × Settling n m lo hi (bit rows) rules visited order t entries₀ entries count
 
 abbrev μ-loop : tie.MeasureT-loop
-μ-loop rows closed n m lo hi visited rules entries₀ ranked count₀ r₀ entries count r = n - r
-
-rank-all-requires : tie.Need-rank-all-requires Inv-loop μ-loop
-rank-all-requires c κs =
-    let s = c .before .before .before .pre in
-    (s .0 .0 .kinds, rank-room _ _ _ (s .0 .0 .kinds) (s .1 .0 .0) (s .1 .0 .1))
+μ-loop rows order reach ruled n m lo hi visited rules entries₀ count₀ t₀ entries count t = n - t
 
 loop-holds : tie.Need-loop-holds Inv-loop μ-loop
-loop-holds c = (omega arith, rw zero-mul (advanced-none _ _ _ _ _ _ _ _ _))
+loop-holds c =
+    let s = c .before .before .pre in
+    (omega arith, settling-none _ _ _ _ _ _ _ _ _ (s .0 .0 .kinds) (s .0 .1 .arranged) _ (s .1 .1))
 
-settle-round-requires : tie.Need-settle-round-requires Inv-loop μ-loop
-settle-round-requires c κs =
-    let l = c .before .before .before in
-    let s = l .before .before .before .before .before .pre in (
-      record { kinds = s .0 .0 .kinds; marks = s .0 .0 .marks; rules-size = s .0 .0 .rules-size; entries-size = l .loop .inv .1 .size ∙ s .0 .0 .entries-size },
-      s .0 .1,
-      omega arith,
-      s .1 .0 .1,
+sub-c : tie.Need-sub-c Inv-loop μ-loop
+sub-c c = omega arith
+
+sub-c-2 : tie.Need-sub-c-2 Inv-loop μ-loop
+sub-c-2 c = omega arith
+
+element-copy-out-c : tie.Need-element-copy-out-c Inv-loop μ-loop
+element-copy-out-c c = omega arith
+
+cast-c : tie.Need-cast-c Inv-loop μ-loop
+cast-c c = omega (arith, c .before .before .before .before .before .pre .0 .1 .arranged .kinds (c .before .before .before .before .before .args .n - 1 - c .before .before .loop .t) (omega arith))
+
+element-copy-out-if1 : tie.Need-element-copy-out-if1 Inv-loop μ-loop
+element-copy-out-if1 c = omega (arith, c .before .before .before .before .before .pre .0 .1 .arranged .kinds (c .before .before .before .before .before .args .n - 1 - c .before .before .loop .t) (omega arith))
+
+settle-kind-requires : tie.Need-settle-kind-requires Inv-loop μ-loop
+settle-kind-requires c κs =
+    let l = c .before .before .before .before .before in
+    let s = c .before .before .before .before .before .before .before .before in
+    let sized = s .pre .0 .0 in (
+      (record { kinds = sized .kinds; marks = sized .marks; rules-size = sized .rules-size; entries-size = l .loop .inv .1 .size ∙ sized .entries-size }, s .pre .0 .1),
+      (s .pre .1 .0, s .pre .0 .1 .arranged .kinds (s .args .n - 1 - l .loop .t) (omega arith)),
     )
 
--- the count so far and that of one more round
 add-count : tie.Need-add-count Inv-loop μ-loop
 add-count c =
-    let l = c .before .before .before .before .before .before in
-    let s = l .before .before .before .before .before .pre in
-    let by-rank = ranked-by _ _ _ (s .0 .0 .kinds) (s .1 .0 .0) _ _ (l .before .rank-all .ensures) in
-    let f = advanced-trans _ _ _ _ _ _ _ (l .loop .inv .1) (c .before .before .settle-round .ensures .advanced _ by-rank) in
-    omega (arith, advanced-few _ _ _ _ _ _ _ (s .1 .1) f, s .0 .0 .entries-size, mul-le-mul (s .0 .0 .kinds) (s .0 .0 .marks))
+    let l = c .before .before .before .before .before .before .before .before in
+    let s = c .before .before .before .before .before .before .before .before .before .before .before .pre in
+    let next = settling-kind _ _ _ _ _ _ _ _ _ (s .0 .0 .kinds) (s .0 .1 .arranged) _ _ (omega arith) (l .loop .inv .1) (s .1 .0 .high) (c .before .before .settle-kind .ensures .1) in
+    omega (arith, settling-few _ _ _ _ _ _ _ _ _ (s .0 .0 .kinds) (s .0 .1 .arranged) next, s .0 .0 .entries-size, mul-le-mul (s .0 .0 .kinds) (s .0 .0 .marks))
 
-add-r : tie.Need-add-r Inv-loop μ-loop
-add-r c = omega arith
+add-t : tie.Need-add-t Inv-loop μ-loop
+add-t c = omega arith
 
 loop-less : tie.Need-loop-less Inv-loop μ-loop
 loop-less c = omega arith
 
 loop-again : tie.Need-loop-again Inv-loop μ-loop
 loop-again c =
-    let l = c .before .before .before .before .before .before in
-    let s = l .before .before .before .before .before .pre in
-    let by-rank = ranked-by _ _ _ (s .0 .0 .kinds) (s .1 .0 .0) _ _ (l .before .rank-all .ensures) in
-    (omega arith, rw (add-one, suc-mul) (advanced-trans _ _ _ _ _ _ _ (l .loop .inv .1) (c .before .before .settle-round .ensures .advanced _ by-rank)))
+    let l = c .before .before .before .before in
+    let s = c .before .before .before .before .before .before .before .pre in (
+      omega arith,
+      ⊎-elim
+          (λ w. rw (w .5, w .6) (settling-kind _ _ _ _ _ _ _ _ _ (s .0 .0 .kinds) (s .0 .1 .arranged) _ _ (omega arith) (l .loop .inv .1) (s .1 .0 .high) (w .2 .ensures .1)))
+          (λ w. rw (w .1, w .2) (settling-skip _ _ _ _ _ _ _ _ _ (s .0 .0 .kinds) (s .0 .1 .arranged) _ _ (omega arith) (l .loop .inv .1) (w .0 .left)))
+          (c .if1 .came),
+    )
 
 same-length : tie.Need-same-length Inv-loop μ-loop
 same-length c = c .before .loop .inv .1 .size
 
 returns : tie.Need-returns Inv-loop μ-loop
 returns c =
-    let a = c .before .before .before .before .before .before in
-    let most : a .args .n ≤ 256 = omega arith in
-    let end : c .before .loop .r ≡ a .args .n = omega arith in
-    settled _ _ _ _ _ _ _ most (a .pre .1 .0 .1) (a .pre .1 .1) (rw end at (c .before .loop .inv .1))
+    let s = c .before .before .before .before in
+    let end : c .before .loop .t ≡ s .args .n = omega arith in
+    settled _ _ _ _ _ _ _ _ _ (s .pre .0 .0 .kinds) (s .pre .0 .1 .arranged) (rw end at (c .before .loop .inv .1))
 
 pub settle-spec : {M : Type 1} → statement M
 settle-spec =
@@ -74,11 +84,15 @@ settle-spec =
     (tie.spec
     Inv-loop
     μ-loop
-    rank-all-requires
     loop-holds
-    settle-round-requires
+    sub-c
+    sub-c-2
+    element-copy-out-c
+    cast-c
+    element-copy-out-if1
+    settle-kind-requires
     add-count
-    add-r
+    add-t
     loop-less
     loop-again
     same-length

@@ -1,8 +1,8 @@
--- `calls::disputing::answer` meets its contract: the tests are those of refusals 5 and 11, and past both two rule kinds are seen.
+-- `calls::disputing::answer` meets its contract: the tests are those of refusals 5 and 11, and past both two kinds are left.
 -- Assumes nothing.
-use mathlib.Core.Path.{_≡_, sym, _∙_}
+use mathlib.Core.Path.{_≡_, refl, sym, _∙_}
 use mathlib.Core.Bool.{true}
-use mathlib.Core.List.{List, []}
+use mathlib.Core.List.{List}
 use Prim.Native.Nat.{ℕ, _+_, _*_, _<_, _≤_}
 use native.Mathlib.Omega.{arith}
 use lib.Arith.{digits-lt}
@@ -10,19 +10,25 @@ use lib.ListN.{length, getD}
 use denote.Ref.{now}
 use borrow.Author.Needs.{needs}
 use borrow.Author.Tests.{not-true, not-false}
+use Rattle.relation.proofs.Zeros.{blank-zeros}
+use Rattle.deciding.proofs.PartingLaws.{orderly}
+use Rattle.settling.proofs.PartyLaws.{dispute-two, pair-parties}
 use Rattle.tables.specs.Tables.{Tables, lent, sound}
-use Rattle.calls.proofs.PartyLaws.{unsound, no-dispute, disputed, dispute-two, pair-parties}
+use Rattle.calls.proofs.PartyLaws.{unsound, no-dispute, disputed}
 use Rattle.calls.proofs.disputing.answer.Statement.{statement}
 use Rattle.calls.proofs.disputing.answer.Tie as tie
 
 abbrev start : tie.After-examine → tie.Start
-start c = c .before .before .before .before .before .before
+start c = c .before .before .before .before .before .before .before .before
 
 abbrev book : tie.After-examine → List ℕ → Tables
 book c tally = let a = start c .args in lent (now (a .links)) (now (a .rules)) (now (a .entries)) tally
 
+is-found : (c : tie.Else1) → c .before .examine .result ≡ true
+is-found c = not-false _ (c .if1 .left)
+
 is-sound : (c : tie.Else1) (tally : List ℕ) → let a = start (c .before) .args in sound (a .n) (a .m) (book (c .before) tally) ≡ true
-is-sound c tally = sym (c .before .examine .ensures .answer tally) ∙ not-false _ (c .if1 .left)
+is-sound c tally = sym (c .before .examine .ensures .answer tally) ∙ is-found c
 
 entry-within : (c : tie.After-place) → c .place .result < length (now (start (c .before .before) .args .entries))
 entry-within c =
@@ -35,7 +41,15 @@ is-dispute : (c : tie.Else2) → let a = start (c .before .before .before .befor
 is-dispute c = rw (← c .before .before .place .ensures) (omega (arith, c .if2 .left))
 
 examine-requires : tie.Need-examine-requires
-examine-requires c κs = search needs
+examine-requires c κs =
+    let s = c .before .before .before .before .before .before .before in
+    let within = s .pre .0 in (
+      (
+        record { kinds = within .kinds; marks = s .pre .1; rules-size = omega (arith, within .rules-length); entries-size = omega (arith, within .entries-length) },
+        s .pre .2,
+      ),
+      (blank-zeros 256 refl, refl, blank-zeros 256 refl, blank-zeros 256 refl),
+    )
 
 returns : tie.Need-returns
 returns c tally = unsound _ _ _ _ _ (sym (c .before .examine .ensures .answer tally) ∙ not-true _ (c .if1 .taken))
@@ -54,31 +68,31 @@ returns-2 c tally =
     let p = c .before .before in
     no-dispute _ _ _ _ _ (is-sound (p .before) tally) (rw (← p .place .ensures) (omega (arith, c .if2 .taken)))
 
-cast-seen-pair : tie.Need-cast-seen-pair
-cast-seen-pair c = search needs
+cast-left-pair : tie.Need-cast-left-pair
+cast-left-pair c = search needs
 
-cast-seen-pair-2 : tie.Need-cast-seen-pair-2
-cast-seen-pair-2 c = search needs
+cast-left-pair-2 : tie.Need-cast-left-pair-2
+cast-left-pair-2 c = search needs
 
-seen-pair-requires : tie.Need-seen-pair-requires
-seen-pair-requires c κs =
-    let d = c .before .before .before in
+left-pair-requires : tie.Need-left-pair-requires
+left-pair-requires c κs =
+    let d = c .before .before .before .before .before in
     let e = d .before .before .before .before in
     let s = start e in
-    let within = s .pre .0 in (
-      (within .kinds, within .kind-below, within .mark-below, omega arith),
-      dispute-two _ _ (book e []) _ (within .kinds) (e .examine .ensures .related .loaded) (within .kind-below) (within .mark-below)
-          (omega (arith, within .entries-length)) (is-sound (d .before .before .before) []) (is-dispute d),
-    )
+    let within = s .pre .0 in
+    (within .kinds, within .kind-below, omega (arith, within .mark-below), orderly (e .examine .ensures .prepared (is-found (d .before .before .before))))
 
 returns-3 : tie.Need-returns-3
 returns-3 c tally =
-    let d = c .before .before .before .before in
+    let d = c .before .before .before .before .before .before in
     let e = d .before .before .before .before in
     let within = start e .pre .0 in
-    disputed _ _ _ _ _ (is-sound (d .before .before .before) tally) (is-dispute d)
-    (pair-parties _ _ (book e tally) _ (within .kinds) (e .examine .ensures .related .loaded) (within .kind-below) (within .mark-below)
-    (c .seen-pair .ensures))
+    let t = book e tally in
+    let is = is-sound (d .before .before .before) tally in
+    disputed _ _ t _ _ is (is-dispute d)
+    (rw (c .left-pair .ensures _ _ _ (e .examine .ensures .prepared (is-found (d .before .before .before))) (within .mark-below))
+    (pair-parties _ _ t (within .kinds) (within .kind-below) (within .mark-below) _ (e .examine .ensures .loaded (is-found (d .before .before .before)))
+    (dispute-two _ _ t (within .kinds) (within .kind-below) (within .mark-below) (omega (arith, within .entries-length)) is (is-dispute d))))
 
 pub answer-spec : {M : Type 1} → statement M
 answer-spec =
@@ -90,7 +104,7 @@ answer-spec =
     mul-if2
     shared-slice-read-if2
     returns-2
-    cast-seen-pair
-    cast-seen-pair-2
-    seen-pair-requires
+    cast-left-pair
+    cast-left-pair-2
+    left-pair-requires
     returns-3)

@@ -1,7 +1,5 @@
 -- `calls::links::judge` meets its contract: the tests that led to a return say which case of `judged` holds. Assumes nothing.
-use mathlib.Core.Path.{_≡_, refl, sym, _∙_}
-use mathlib.Core.Bool.{Bool, _||_}
-use lib.Dec.{eqb}
+use mathlib.Core.Path.{_≡_, sym, _∙_}
 use denote.Ref.{now}
 use Rattle.relation.specs.Bit.{bit}
 use borrow.Author.Needs.{needs}
@@ -12,8 +10,8 @@ is-linked : (c : tie.After-test2) → let a = c .before .before .args in bit (no
 is-linked c = sym (c .before .test .ensures)
 
 is-cycle : (c : tie.After-test2) → let a = c .before .before .args in
-    (eqb (a .parent) (a .child) || bit (now (a .closed)) (a .parent) (a .child)) ≡ (eqb (a .parent) (a .child) || c .test2 .result)
-is-cycle c = rw (c .test2 .ensures) refl
+    bit (now (a .reach)) (a .parent) (a .at) ≡ c .test2 .result
+is-cycle c = sym (c .test2 .ensures)
 
 test-requires : tie.Need-test-requires
 test-requires c κs = search needs

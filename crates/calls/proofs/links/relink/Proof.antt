@@ -1,26 +1,19 @@
--- `calls::links::relink` meets its contract, by `marked-changed` and `unmarked-changed`. Assumes nothing.
-use mathlib.Core.Path.{_≡_}
+-- `calls::links::relink` meets its contract, by `marked-reset` and `unmarked-reset`. Assumes nothing.
+use mathlib.Core.Path.{refl, sym, _∙_}
 use mathlib.Core.Logic.{⊎-elim}
-use mathlib.Core.Bool.{_&&_}
-use Prim.Native.Nat.{ℕ, _<_}
-use lib.Dec.{eqb}
-use lib.ListN.{length}
+use mathlib.Core.Bool.{true≢false}
 use denote.Ref.{now}
-use Rattle.relation.specs.Bit.{bit}
-use Rattle.calls.specs.Edits.{changed}
-use Rattle.calls.proofs.LinkEditLaws.{marked-changed, unmarked-changed}
+use Rattle.calls.specs.Edits.{Reset}
+use Rattle.calls.proofs.ResetLaws.{marked-reset, unmarked-reset}
+use Rattle.relation.proofs.Zeros.{blank-zeros}
 use borrow.Author.Needs.{needs}
 use Rattle.calls.proofs.links.relink.Statement.{statement}
 use Rattle.calls.proofs.links.relink.Tie as tie
 
-is-long : (j : tie.Joined1) → length (j .if1 .rows) ≡ 256
-is-long j = ⊎-elim (λ w. rw (w .3) (w .2 .ensures .long)) (λ w. rw (w .3) (w .2 .ensures .long)) (j .if1 .came)
-
-are-bits : (j : tie.Joined1) (d q : ℕ) → q < 128
-    → let a = j .before .args in bit (j .if1 .rows) d q ≡ changed (a .adding) (eqb d (a .child) && eqb q (a .parent)) (bit (now (a .rows)) d q)
-are-bits j = ⊎-elim
-    (λ w. rw (w .3, w .0 .taken) (marked-changed _ _ (w .2 .ensures)))
-    (λ w. rw (w .3, w .0 .left) (unmarked-changed _ _ (w .2 .ensures)))
+is-reset : (j : tie.Joined1) → let a = j .before .before .args in Reset (a .child) (a .parent) (a .adding) (now (a .rows)) (j .if1 .rows)
+is-reset j = ⊎-elim
+    (λ w. rw (w .3, w .0 .taken) (marked-reset _ _ (w .2 .ensures)))
+    (λ w. rw (w .3, w .0 .left) (unmarked-reset _ _ (w .2 .ensures)))
     (j .if1 .came)
 
 mark-requires : tie.Need-mark-requires
@@ -29,11 +22,28 @@ mark-requires c κs = search needs
 unmark-requires : tie.Need-unmark-requires
 unmark-requires c κs = search needs
 
-close-requires : tie.Need-close-requires
-close-requires c κs = (is-long (c .before .before), c .before .before .before .pre .0)
+arrange-requires : tie.Need-arrange-requires
+arrange-requires c κs = let s = c .before .before .before .before .before .before .before .pre in (s .0, s .6, blank-zeros 256 refl)
+
+rule-rows-requires : tie.Need-rule-rows-requires
+rule-rows-requires c κs =
+    let t = c .before .before in
+    let s = t .before .before .before .before .before .before .before .before .before .pre in
+    (s .0, s .1, s .2, t .before .arrange .ensures .arranged (t .if2 .taken) .kinds, blank-zeros 256 refl)
 
 returns : tie.Need-returns
-returns c = let j = c .before .before .before in record { long = is-long j; bits = are-bits j; closes = c .close .ensures }
+returns c =
+    let t = c .before .before .before in
+    record {
+      reset = is-reset (t .before .before .before .before .before .before .before);
+      ready = λ _. record { arranged = t .before .arrange .ensures .arranged (t .if2 .taken); rule-kinds = c .rule-rows .ensures };
+    }
+
+returns-2 : tie.Need-returns-2
+returns-2 c = record {
+  reset = is-reset (c .before .before .before .before .before .before .before);
+  ready = λ acyclic. absurd (true≢false (sym (c .before .arrange .ensures .all acyclic) ∙ c .if2 .left));
+}
 
 pub relink-spec : {M : Type 1} → statement M
-relink-spec = tie.close (tie.spec mark-requires unmark-requires close-requires returns)
+relink-spec = tie.close (tie.spec mark-requires unmark-requires arrange-requires rule-rows-requires returns returns-2)

@@ -1,6 +1,6 @@
 -- `calls::refreshing::refresh` meets its contract: where the links have no fault the lookups are gathered, and the entries replaced by them.
 -- Assumes nothing.
-use mathlib.Core.Path.{_≡_, sym, _∙_}
+use mathlib.Core.Path.{_≡_, refl, sym, _∙_}
 use mathlib.Core.Bool.{true}
 use Prim.Native.Nat.{_≤_}
 use native.Mathlib.Omega.{arith}
@@ -8,7 +8,10 @@ use borrow.Author.Needs.{needs}
 use borrow.Author.Tests.{not-true, not-false}
 use denote.Ref.{now}
 use lib.ListN.{length}
+use Rattle.loading.specs.Loaded.{Loaded}
 use Rattle.tables.specs.Tables.{Tables, lent, shaped, well-linked}
+use Rattle.relation.proofs.Zeros.{blank-zeros}
+use Rattle.settling.proofs.Soundness.{linked-bytes}
 use Rattle.tables.proofs.ShapeLaws.{sized-facts}
 use Rattle.calls.proofs.GatherLaws.{part-length, places-fit, gather-ready}
 use Rattle.calls.proofs.RefreshLaws.{refresh-done, refresh-refused, refresh-unsound}
@@ -28,7 +31,7 @@ is-shaped : (c : tie.Else1) → shaped (start (c .before) .args .n) (start (c .b
 is-shaped c = is-tested (c .before) ∙ not-false _ (c .if1 .left)
 
 abbrev past : tie.After-examine-links → tie.Else1
-past c = c .before .before .before
+past c = c .before .before .before .before
 
 is-linked : (c : tie.Else2) → let k = past (c .before) .before in well-linked (start k .args .n) (book k .links) ≡ true
 is-linked c = sym (c .before .examine-links .ensures .answer) ∙ not-false _ (c .if2 .left)
@@ -39,8 +42,14 @@ entries-fit c =
     let a = start (p .before) .args in
     places-fit (a .n) (a .m) (book (p .before)) (is-shaped p) .1
 
+links-loaded : (c : tie.Else2) → let k = past (c .before) .before in Loaded (start k .args .n) (book k .links) (c .before .examine-links .last .1 .1 .0)
+links-loaded c =
+    let p = past (c .before) in
+    let a = start (p .before) .args in
+    c .before .examine-links .ensures .loaded (linked-bytes _ _ (sized-facts 1 1 (a .n) (a .m) _ _ _ _ (is-shaped p) .links-length) (is-linked c))
+
 abbrev linked : tie.After-gather → tie.Else2
-linked c = c .before .before .before .before .before
+linked c = c .before .before .before .before .before .before
 
 shape-requires : tie.Need-shape-requires
 shape-requires c κs = search needs
@@ -52,9 +61,9 @@ returns c =
 
 examine-links-requires : tie.Need-examine-links-requires
 examine-links-requires c κs =
-    let a = start (c .before .before .before) .args in
-    let s = sized-facts 1 1 (a .n) (a .m) _ _ _ _ (is-shaped (c .before .before)) in
-    (s .kinds .1, s .links-length)
+    let a = start (c .before .before .before .before) .args in
+    let s = sized-facts 1 1 (a .n) (a .m) _ _ _ _ (is-shaped (c .before .before .before)) in
+    (s .kinds .1, s .links-length, blank-zeros 256 refl, refl, blank-zeros 256 refl)
 
 returns-2 : tie.Need-returns-2
 returns-2 c =
@@ -70,10 +79,10 @@ slice-aggregate-lookups c = sym (part-length _ 8192 0 (entries-fit (c .before)))
 
 gather-requires : tie.Need-gather-requires
 gather-requires c κs =
-    let e = c .before .before .before .before in
+    let e = c .before .before .before .before .before in
     let p = past (e .before) in
     let a = start (p .before) .args in
-    gather-ready (a .n) (a .m) (book (p .before)) (is-shaped p) (is-linked e) (e .before .examine-links .ensures .related) (part-length _ 8192 0 (entries-fit e))
+    gather-ready (a .n) (a .m) (book (p .before)) (is-shaped p) (e .before .examine-links .ensures .arranged (not-false _ (e .if2 .left))) (part-length _ 8192 0 (entries-fit e))
 
 replace-requires : tie.Need-replace-requires
 replace-requires c κs =
@@ -94,7 +103,7 @@ returns-3 c =
     let p = past (e .before) in
     let a = start (p .before) .args in
     refresh-done (a .n) (a .m) (book (p .before)) (is-shaped p) (is-linked e)
-    (g .gather .ensures .looked _ (e .before .examine-links .ensures .related .loaded)) (w .replace .ensures)
+    (g .gather .ensures .looked _ (links-loaded e)) (w .replace .ensures)
 
 pub refresh-spec : {M : Type 1} → statement M
 refresh-spec =

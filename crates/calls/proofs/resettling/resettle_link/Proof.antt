@@ -1,10 +1,10 @@
 -- `calls::resettling::resettle_link` meets its contract: no kind is a stop. Assumes nothing.
-use mathlib.Core.Path.{_≡_, sym, ap}
+use mathlib.Core.Path.{sym, ap}
 use mathlib.Core.Bool.{false, not}
-use Prim.Native.Nat.{ℕ, _≤_}
+use Prim.Native.Nat.{ℕ}
 use native.Mathlib.Omega.{arith}
 use lib.Dec.{eqb}
-use Rattle.relation.proofs.Filling.{getD-zeros}
+use Rattle.relation.proofs.Zeros.{getD-zeros}
 use Rattle.calls.proofs.ResettleLaws.{untouched-stops}
 use borrow.Author.Needs.{needs}
 use Rattle.calls.proofs.resettling.resettle_link.Statement.{statement}

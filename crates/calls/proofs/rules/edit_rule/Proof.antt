@@ -1,32 +1,34 @@
 -- `calls::rules::edit_rule` meets its contract, by the steps of `RuleEditLaws`. Assumes nothing.
-use mathlib.Core.Path.{_≡_, sym, _∙_}
+use mathlib.Core.Path.{refl, sym, _∙_}
 use Prim.Native.Nat.{_<_}
 use native.Mathlib.Omega.{arith}
 use lib.ListN.{length}
 use denote.Ref.{now}
 use borrow.Author.Tests.{not-true, not-false}
 use Rattle.tables.specs.Tables.{Tables, lent}
-use Rattle.calls.proofs.KnownLaws.{fits-sized, fits-tally, Known, known}
-use Rattle.calls.proofs.RuleEditLaws.{rule-unsound, rule-within, rule-absent, rule-sized, rule-untouched, rule-done}
+use Rattle.calls.proofs.KnownLaws.{fits-sized, fits-tally, Known, known, known-place}
+use Rattle.calls.proofs.RuleEditLaws.{rule-unsound, rule-within, rule-absent, rule-sized, rule-prepared, rule-untouched, rule-done}
+use Rattle.relation.proofs.Zeros.{blank-zeros}
 use borrow.Author.Needs.{needs}
 use Rattle.calls.proofs.rules.edit_rule.Statement.{statement}
 use Rattle.calls.proofs.rules.edit_rule.Tie as tie
 
-abbrev start : tie.After-closed → tie.Start
-start c = c .before .before .before .before .before .before .before .before
+abbrev start : tie.After-ruled → tie.Start
+start c = c .before .before .before .before .before .before .before .before .before .before
 
-abbrev book : tie.After-closed → Tables
+abbrev book : tie.After-ruled → Tables
 book c = let a = start c .args in lent (now (a .links)) (now (a .rules)) (now (a .entries)) (now (a .tally))
 
 -- past the first test the tables are sound
 is-known : (c : tie.Else1) → let a = start (c .before .before) .args in
     Known (a .n) (a .m) (book (c .before .before)) (c .before .examine .last .1 .1 .1 .1 .1 .0) (c .before .examine .last .1 .1 .1 .1 .1 .1 .0)
+    (c .before .examine .last .1 .1 .1 .1 .1 .1 .1 .0) (c .before .examine .last .1 .1 .1 .1 .1 .1 .1 .1 .0)
 is-known c =
     let s = start (c .before .before) in
-    known _ _ (book (c .before .before)) _ _ (s .pre .0) (c .before .examine .ensures) (not-false _ (c .if1 .left))
+    known _ _ (book (c .before .before)) _ _ _ _ (s .pre .0) (c .before .examine .ensures) (not-false _ (c .if1 .left))
 
 examine-requires : tie.Need-examine-requires
-examine-requires c κs = fits-sized _ _ (book c) (start c .pre .0)
+examine-requires c κs = (fits-sized _ _ (book c) (start c .pre .0), (blank-zeros 256 refl, refl, blank-zeros 256 refl, blank-zeros 256 refl))
 
 same-length : tie.Need-same-length
 same-length c = search needs
@@ -80,22 +82,39 @@ cast-k c = search needs
 cast-j : tie.Need-cast-j
 cast-j c = search needs
 
+next-requires : tie.Need-next-requires
+next-requires c κs =
+    let q = c .before .before .before .before .before .before in
+    let s = start (q .before .before .before) in
+    (omega (arith, s .pre .1, is-known (q .before) .has .kinds), omega arith)
+
+rerule-requires : tie.Need-rerule-requires
+rerule-requires c κs =
+    let q = c .before .before .before .before .before .before .before in
+    let s = start (q .before .before .before) in
+    let k = is-known (q .before) in (
+      omega (arith, s .pre .2, k .has .marks),
+      omega (arith, known-place _ _ (book (q .before .before .before)) k _ (s .pre .1) (c .next .ensures) .0, k .has .kinds),
+      k .prepared .rule-kinds .long,
+    )
+
 resettle-rule-requires : tie.Need-resettle-rule-requires
 resettle-rule-requires c κs =
-    let q = c .before .before .before .before .before .before .before .before in
+    let f = c .before .before .before .before .before .before in
+    let q = f .before .before .before .before .before .before .before .before in
     let s = start (q .before .before .before) in
     let t = book (q .before .before .before) in
     let k = is-known (q .before) in (
       (rule-sized _ _ t _ _ (s .args .handling) k (s .pre .1) (s .pre .2) _ (q .place .ensures), s .pre .1, s .pre .2),
       (
-        (k .related .closes, k .acyclic),
+        rule-prepared _ _ t _ _ (s .args .handling) k (s .pre .1) (s .pre .2) _ (q .place .ensures) (f .before .next .ensures) (f .rerule .ensures),
         rule-untouched _ _ t _ _ (s .args .handling) k (s .pre .1) (s .pre .2) _ (q .place .ensures),
       ),
     )
 
 count-edit-requires : tie.Need-count-edit-requires
 count-edit-requires c κs =
-    let q = c .before .before .before .before .before .before .before .before .before .before .before .before in
+    let q = c .before .before .before .before .before .before .before .before .before .before .before .before .before .before .before .before .before .before in
     let s = start (q .before .before .before) in
     fits-tally _ _ (book (q .before .before .before)) (s .pre .0)
 
@@ -111,7 +130,7 @@ same-length-7 c = search needs
 returns-3 : tie.Need-returns-3
 returns-3 c =
     let r = c .before .before .before .before .before .before in
-    let e = r .before .before .before .before .before .before .before in
+    let e = r .before .before .before .before .before .before .before .before .before .before .before .before .before in
     let q = e .before .before in
     let s = start (q .before .before .before) in
     rw (c .before .before .count-edit .ensures)
@@ -136,6 +155,8 @@ edit-rule-spec =
     slice-write-rules
     cast-k
     cast-j
+    next-requires
+    rerule-requires
     resettle-rule-requires
     count-edit-requires
     same-length-5

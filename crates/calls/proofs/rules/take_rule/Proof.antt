@@ -2,7 +2,7 @@
 use mathlib.Core.Path.{_≡_, sym, _∙_}
 use denote.Ref.{now}
 use Rattle.tables.specs.declared.Asked.{Asked}
-use Rattle.tables.specs.Tables.{Tables, lent, shaped}
+use Rattle.tables.specs.Tables.{Tables, lent}
 use Rattle.calls.proofs.RuleEditLaws.{checked, admitted, take-refused, take-passed}
 use borrow.Author.Needs.{needs}
 use Rattle.calls.proofs.rules.take_rule.Statement.{statement}

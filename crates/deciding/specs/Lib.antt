@@ -1,0 +1,4 @@
+pub mod Deciding
+pub mod Parting
+pub mod Row
+pub mod Ruling
