@@ -13,7 +13,7 @@ ghost use Rattle.relation.specs.Bit.{bit};
 ghost use Rattle.relation.specs.First.{First};
 ghost use Rattle.tables.specs.Tables.{all-below};
 ghost use Rattle.deciding.specs.Deciding.{Held, common, covered, deciding, apart};
-ghost use Rattle.deciding.specs.Row.{Row};
+ghost use Rattle.deciding.specs.Row.{Row, Changed};
 
 // The first bit of two words, the low one first; 128 where there is none.
 fn first_of(low: u64, high: u64) -> usize
@@ -88,7 +88,38 @@ fn narrow(
     }
 }
 
-// The entries of kind c are decided where its parents differ, mark by mark.
+// Whether none of the eight entries from `from` on says that the parents of kind c differ. The eight are looked at at once.
+fn eight_agreed(from: usize, c: usize, out: &[u16; 64]) -> bool
+    requires { ⌜ (c < 128) × (from + 8 ≤ 64) × (length (now out) ≡ 64) ⌝ }
+    ensures { λ r. ⌜ r ≡ all-below (λ k. not (eqb (getD (now (out .entry)) (from + k) 0) (257 + c))) 8 ⌝ }
+{
+    let apart = 257 + c as u16;
+    let mut all = true;
+    for k in 0..8 {
+        all = all & (out[from + k] != apart);
+    }
+    all
+}
+
+// The eight entries from `from` on are decided where the parents of kind c differ.
+fn decide_eight(
+    order: &[u8; 128],
+    reach: &[u64; 256],
+    ruled: &[u64; 256],
+    from: usize,
+    c: usize,
+    out: &mut [u16; 64],
+)
+    requires { ⌜ (c < 128) × (from + 8 ≤ 64) × (length (now out) ≡ 64) × (Held (now order) (now reach) c) ⌝ }
+    ensures { λ _. ⌜ Changed from (from + 8) (λ j e. apart c e (deciding (now (order .entry)) (now (reach .entry)) (now (ruled .entry)) c j)) (now (out .entry)) (now (out .exit)) ⌝ }
+{
+    for j in from..from + 8 {
+        out[j] = narrow(order, reach, ruled, c, j, out[j]);
+    }
+}
+
+// The entries of kind c are decided where its parents differ. The marks go by groups of eight, and a group without such an
+// entry is passed over. The first and the last group may have marks that are not from lo to below hi; those do not count.
 pub fn decide_row(
     order: &[u8; 128],
     reach: &[u64; 256],
@@ -101,7 +132,9 @@ pub fn decide_row(
     requires { ⌜ (c < 128) × (lo ≤ hi) × (hi ≤ 64) × (length (now out) ≡ 64) × (Held (now order) (now reach) c) ⌝ }
     ensures { λ _. ⌜ Row lo hi (λ j. apart c (getD (now (out .entry)) j 0) (deciding (now (order .entry)) (now (reach .entry)) (now (ruled .entry)) c j)) (now (out .exit)) ⌝ }
 {
-    for j in lo..hi {
-        out[j] = narrow(order, reach, ruled, c, j, out[j]);
+    for q in lo / 8..(hi + 7) / 8 {
+        if !eight_agreed(8 * q, c, out) {
+            decide_eight(order, reach, ruled, 8 * q, c, out);
+        }
     }
 }

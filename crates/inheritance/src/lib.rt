@@ -1,7 +1,6 @@
 // Kinds, marks and lookups: the words in which inheritance is told.
 ghost use mathlib.Core.Path.{_≡_};
 ghost use Rattle.inheritance.specs.Checked.{kindBelow, markBelow};
-ghost use Rattle.inheritance.specs.Lookup.{same};
 
 // A kind of fruit: the class index of the dispatch-table paper.
 pub struct Kind(pub u16);
@@ -56,31 +55,6 @@ impl Mark {
             CheckedMark::Mark(Mark(number))
         } else {
             CheckedMark::Outside
-        }
-    }
-}
-
-impl Lookup {
-    // Whether two lookups are the same case with the same kind.
-    pub fn same(self, other: Lookup) -> bool
-        ensures { λ r. ⌜ r ≡ same self other ⌝ }
-    {
-        match self {
-            Lookup::None => match other {
-                Lookup::None => true,
-                Lookup::Rule(k) => false,
-                Lookup::Dispute(k) => false,
-            },
-            Lookup::Rule(j) => match other {
-                Lookup::None => false,
-                Lookup::Rule(k) => j.0 == k.0,
-                Lookup::Dispute(k) => false,
-            },
-            Lookup::Dispute(j) => match other {
-                Lookup::None => false,
-                Lookup::Rule(k) => false,
-                Lookup::Dispute(k) => j.0 == k.0,
-            },
         }
     }
 }

@@ -4,6 +4,7 @@
 use arranging::arrange;
 use deciding::decide_row;
 use deciding::rule_rows;
+use inheritance::Lookup;
 use loading::load;
 use relation::next;
 use tables::decode;
@@ -17,22 +18,31 @@ ghost use Rattle.tables.specs.Tables.{all-below, byte-right, differ};
 ghost use Rattle.deciding.specs.Deciding.{Prepared};
 ghost use Rattle.settling.specs.Examined.{LinksExamined, Examined};
 ghost use Rattle.deciding.specs.Row.{Row};
-ghost use Rattle.settling.specs.Merged.{merged, ruled, given, Sized, Marks};
+ghost use Rattle.settling.specs.Merged.{merged, ruled, given, agreed, Sized, Marks};
 ghost use Rattle.settling.specs.Settled.{Written, Awaiting, Settled};
 
-// One more parent's entry b, folded into a, what the parents so far give kind c.
+// One more parent's entry b, folded into a, what the parents so far give kind c: another rule than that of b, or another
+// dispute, differs from it.
 fn merge(c: u16, a: u16, b: u16) -> u16
     requires { ⌜ c < 128 ⌝ }
     ensures { λ r. ⌜ r ≡ merged c a b ⌝ }
 {
-    if b == 0 {
-        a
-    } else if a == 0 {
-        b
-    } else if decode(a).same(decode(b)) {
-        a
-    } else {
-        257 + c
+    match decode(b) {
+        Lookup::None => a,
+        Lookup::Rule(k) => {
+            if (a == 0) | (a == k.0 + 1) {
+                b
+            } else {
+                257 + c
+            }
+        }
+        Lookup::Dispute(k) => {
+            if (a == 0) | (a == k.0 + 257) {
+                b
+            } else {
+                257 + c
+            }
+        }
     }
 }
 
@@ -66,16 +76,21 @@ fn merge_row(c: u16, m: usize, lo: usize, hi: usize, p: usize, entries: &[u16], 
     }
 }
 
-// The own rules of kind c win over the entries that its parents give it.
-fn own_row(c: usize, m: usize, lo: usize, hi: usize, rules: &[u16], out: &mut [u16; 64])
+// The own rules of kind c win over the entries that its parents give it. Whether no entry then says that the parents differ.
+fn own_row(c: usize, m: usize, lo: usize, hi: usize, rules: &[u16], out: &mut [u16; 64]) -> bool
     requires { ⌜ (c < 128) × (length (now out) ≡ 64) × (c * m + m ≤ length (now rules)) ⌝ }
     requires { ⌜ Marks m lo hi ⌝ }
-    ensures { λ _. ⌜ Row lo hi (λ j. ruled c (getD (now (rules .entry)) (c * m + j) 0) (getD (now (out .entry)) j 0)) (now (out .exit)) ⌝ }
+    ensures { λ r. ⌜ (Row lo hi (λ j. ruled c (getD (now (rules .entry)) (c * m + j) 0) (getD (now (out .entry)) j 0)) (now (out .exit)))
+        × (r ≡ agreed c lo hi (λ j. ruled c (getD (now (rules .entry)) (c * m + j) 0) (getD (now (out .entry)) j 0))) ⌝ }
 {
     let k = c as u16;
+    let mut all = true;
     for j in lo..hi {
-        out[j] = own(k, rules[c * m + j], out[j]);
+        let e = own(k, rules[c * m + j], out[j]);
+        all = all & (e != 257 + k);
+        out[j] = e;
     }
+    all
 }
 
 // What the parents of kind c give it.
@@ -89,19 +104,20 @@ fn merge_parents(
     c: usize,
     out: &mut [u16; 64],
 )
-    requires { ⌜ (c < 128) × (n ≤ 128) × (length (now entries) ≡ n * m) ⌝ }
+    requires { ⌜ (c < 128) × (n ≤ 128) × (length (now entries) ≡ n * m) × (length (now out) ≡ 64) ⌝ }
     requires { ⌜ Marks m lo hi ⌝ }
     ensures { λ _. ⌜ Row lo hi (given m (bit (now (rows .entry))) (now (entries .entry)) c n) (now (out .exit)) ⌝ }
 {
-    *out = [0u16; 64];
     let first = next(rows, c, 0);
-    if first < n {
-        take_row(m, lo, hi, first, entries, out);
-        let mut p = next(rows, c, first + 1);
-        while p < n {
-            merge_row(c as u16, m, lo, hi, p, entries, out);
-            p = next(rows, c, p + 1);
-        }
+    if first >= n {
+        *out = [0u16; 64];
+        return;
+    }
+    take_row(m, lo, hi, first, entries, out);
+    let mut p = next(rows, c, first + 1);
+    while p < n {
+        merge_row(c as u16, m, lo, hi, p, entries, out);
+        p = next(rows, c, p + 1);
     }
 }
 
@@ -122,12 +138,13 @@ fn inherit_row(
     out: &mut [u16; 64],
 )
     requires { ⌜ (Sized n m (now rules) (now entries)) × (Prepared n m (now rows) (now rules) (now order) (now reach) (now ruled)) ⌝ }
-    requires { ⌜ (Marks m lo hi) × (c < n) ⌝ }
+    requires { ⌜ (Marks m lo hi) × (c < n) × (length (now out) ≡ 64) ⌝ }
     ensures { λ _. ⌜ Row lo hi (stepped n m (bit (now (rows .entry))) (now (rules .entry)) (now (entries .entry)) c) (now (out .exit)) ⌝ }
 {
     merge_parents(rows, n, m, lo, hi, entries, c, out);
-    own_row(c, m, lo, hi, rules, out);
-    decide_row(order, reach, ruled, lo, hi, c, out);
+    if !own_row(c, m, lo, hi, rules, out) {
+        decide_row(order, reach, ruled, lo, hi, c, out);
+    }
 }
 
 // Whether the entries of kind c are those of the row.

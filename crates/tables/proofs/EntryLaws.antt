@@ -16,6 +16,11 @@ use Rattle.inheritance.specs.declared.Lookup.the-variants.{None, Rule, Dispute}
 use Rattle.inheritance.specs.Checked.{kind}
 use Rattle.tables.specs.Entry.{entryOf, lookupOf}
 
+pub lookup-none : (e : ℕ) → e ≡ 0 → lookupOf e ≡ None
+unfolding lookupOf
+lookup-none zero is = refl
+lookup-none (suc e) is = absurd (omega arith)
+
 pub lookup-rule : (e : ℕ) → 1 ≤ e → e ≤ 256 → lookupOf e ≡ Rule (kind (e - 1))
 unfolding lookupOf
 lookup-rule zero low high = absurd (omega arith)

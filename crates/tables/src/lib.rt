@@ -91,16 +91,17 @@ impl Refusal {
     }
 }
 
-// The lookup that an entry stands for.
+// The lookup that an entry stands for. The tests stand in this order for speed: what is matched on the lookup of many entries
+// is then worked out for several at once.
 pub fn decode(entry: u16) -> Lookup
     ensures { λ r. ⌜ r ≡ lookupOf entry ⌝ }
 {
-    if entry == 0 {
-        Lookup::None
-    } else if entry <= 256 {
+    if entry > 256 {
+        Lookup::Dispute(Kind(entry - 257))
+    } else if entry > 0 {
         Lookup::Rule(Kind(entry - 1))
     } else {
-        Lookup::Dispute(Kind(entry - 257))
+        Lookup::None
     }
 }
 

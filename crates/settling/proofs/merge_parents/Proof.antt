@@ -22,10 +22,13 @@ abbrev μ-loop : tie.MeasureT-loop
 next-requires : tie.Need-next-requires Inv-loop μ-loop
 next-requires c κs = omega arith
 
+returns : tie.Need-returns Inv-loop μ-loop
+returns c = row-empty _ _ _ _ 64 refl (omega arith) (c .before .before .next .ensures) (c .before .if1 .taken)
+
 take-row-requires : tie.Need-take-row-requires Inv-loop μ-loop
 take-row-requires c κs =
-    let s = c .before .before .before .before .before in
-    ((refl, row-in _ _ _ (s .pre .0 .2) (omega arith)), s .pre .1)
+    let s = c .before .before .before .before in
+    ((s .pre .0 .3, row-in _ _ _ (s .pre .0 .2) (omega arith)), s .pre .1)
 
 add-next : tie.Need-add-next Inv-loop μ-loop
 add-next c = omega arith
@@ -37,7 +40,7 @@ loop-holds : tie.Need-loop-holds Inv-loop μ-loop
 loop-holds c =
     let s = c .next2 .ensures in
     let f = c .before .before .before .before .next .ensures in
-    (s .high, s .found, row-next _ _ _ _ s (omega arith) (row-first _ _ _ _ f (c .before .before .before .if1 .taken) (f .found (omega arith)) (c .before .take-row .ensures)))
+    (s .high, s .found, row-next _ _ _ _ s (omega arith) (row-first _ _ _ _ f (c .before .before .before .if1 .left) (f .found (omega arith)) (c .before .take-row .ensures)))
 
 cast-merge-row : tie.Need-cast-merge-row Inv-loop μ-loop
 cast-merge-row c = omega arith
@@ -45,7 +48,7 @@ cast-merge-row c = omega arith
 merge-row-requires : tie.Need-merge-row-requires Inv-loop μ-loop
 merge-row-requires c κs =
     let l = c .before .before in
-    let s = l .before .before .before .before .before .before .before .before in
+    let s = l .before .before .before .before .before .before .before in
     ((omega arith, l .loop .inv .2 .long, row-in _ _ _ (s .pre .0 .2) (omega arith)), s .pre .1)
 
 add-next-2 : tie.Need-add-next-2 Inv-loop μ-loop
@@ -61,21 +64,18 @@ loop-again : tie.Need-loop-again Inv-loop μ-loop
 loop-again c =
     let l = c .before .before .before .before in
     let s = c .next3 .ensures in
-    let at : min (l .loop .p) (l .before .before .before .before .before .before .before .before .args .n) ≡ l .loop .p = omega arith in (
+    let at : min (l .loop .p) (l .before .before .before .before .before .before .before .args .n) ≡ l .loop .p = omega arith in (
       s .high,
       s .found,
       row-next _ _ _ _ s (omega arith)
           (row-merge _ _ _ _ _ (l .loop .inv .1 (omega arith)) (rw at at (l .loop .inv .2)) (c .before .merge-row .ensures)),
     )
 
-returns : tie.Need-returns Inv-loop μ-loop
-returns c =
-    let l = c .before in
-    let end : min (l .loop .p) (l .before .before .before .before .before .before .before .before .args .n) ≡ l .before .before .before .before .before .before .before .before .args .n = omega arith in
-    rw end at (l .loop .inv .2)
-
 returns-2 : tie.Need-returns-2 Inv-loop μ-loop
-returns-2 c = row-empty _ _ _ _ 64 refl (omega arith) (c .before .next .ensures) (c .if1 .left)
+returns-2 c =
+    let l = c .before in
+    let end : min (l .loop .p) (l .before .before .before .before .before .before .before .args .n) ≡ l .before .before .before .before .before .before .before .args .n = omega arith in
+    rw end at (l .loop .inv .2)
 
 pub merge-parents-spec : {M : Type 1} → statement M
 merge-parents-spec =
@@ -84,6 +84,7 @@ merge-parents-spec =
     Inv-loop
     μ-loop
     next-requires
+    returns
     take-row-requires
     add-next
     next-requires-2
@@ -94,5 +95,4 @@ merge-parents-spec =
     next-requires-3
     loop-less
     loop-again
-    returns
     returns-2)

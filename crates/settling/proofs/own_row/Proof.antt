@@ -1,24 +1,28 @@
--- `settling::own_row` meets its contract. The loop's invariant: the marks below j have their own rules, the others are as they were. Assumes nothing.
-use mathlib.Core.Path.{_≡_}
+-- `settling::own_row` meets its contract. The loop's invariant: the marks below j have their own rules, the others are as they were, and
+-- `all` says whether no entry below j says that the parents differ. Assumes nothing.
+use mathlib.Core.Path.{_≡_, ap, _∙_}
 use Prim.Native.Nat.{_+_, _*_, _-_, _≤_}
 use native.Mathlib.Omega.{arith}
 use lib.ListN.{getD}
-use Rattle.settling.specs.Merged.{ruled}
+use Rattle.settling.specs.Merged.{ruled, agreed}
 use Rattle.deciding.proofs.Rows.{Passed, passed-none, passed-store, row-passed}
+use Rattle.settling.proofs.NarrowLaws.{agreed-none, agreed-more}
 use Rattle.settling.proofs.own_row.Statement.{statement}
 use Rattle.settling.proofs.own_row.Tie as tie
 
 abbrev Inv-loop : tie.InvT-loop
-Inv-loop c m lo hi rules out₀ k j₀ out j = (j ≤ hi) × Passed lo j (λ i x. ruled c (getD rules (c * m + i) 0) x) out₀ out
+Inv-loop c m lo hi rules out₀ k all₀ j₀ out all j =
+    (lo ≤ j) × (j ≤ hi) × Passed lo j (λ i x. ruled c (getD rules (c * m + i) 0) x) out₀ out
+    × (all ≡ agreed c lo j (λ i. ruled c (getD rules (c * m + i) 0) (getD out₀ i 0)))
 
 abbrev μ-loop : tie.MeasureT-loop
-μ-loop c m lo hi rules out₀ k j₀ out j = hi - j
+μ-loop c m lo hi rules out₀ k all₀ j₀ out all j = hi - j
 
 cast-k : tie.Need-cast-k Inv-loop μ-loop
 cast-k c = omega arith
 
 loop-holds : tie.Need-loop-holds Inv-loop μ-loop
-loop-holds c = (c .before .pre .1 .low, passed-none _ _ _ (c .before .pre .0 .1))
+loop-holds c = (omega arith, c .before .pre .1 .low, passed-none _ _ _ (c .before .pre .0 .1), agreed-none _ _ _)
 
 mul-own : tie.Need-mul-own Inv-loop μ-loop
 mul-own c = omega arith
@@ -41,6 +45,9 @@ element-copy-out-own c = omega arith
 own-requires : tie.Need-own-requires Inv-loop μ-loop
 own-requires c κs = omega arith
 
+add-all : tie.Need-add-all Inv-loop μ-loop
+add-all c = omega arith
+
 mul-out : tie.Need-mul-out Inv-loop μ-loop
 mul-out c = omega arith
 
@@ -54,12 +61,18 @@ loop-less : tie.Need-loop-less Inv-loop μ-loop
 loop-less c = omega arith
 
 loop-again : tie.Need-loop-again Inv-loop μ-loop
-loop-again c = (omega arith, passed-store _ (c .before .before .before .before .loop .inv .1) (omega arith) (c .own .ensures))
+loop-again c =
+    let l = c .before .before .before .before .loop in (
+      omega arith,
+      omega arith,
+      passed-store _ (l .inv .2) (omega arith) (c .own .ensures),
+      agreed-more _ _ _ (l .inv .0) (l .inv .3) (c .own .ensures ∙ ap (ruled _ _) (l .inv .2 .left _ (omega arith))),
+    )
 
 returns : tie.Need-returns Inv-loop μ-loop
 returns c =
     let end : c .before .loop .j ≡ c .before .before .before .args .hi = omega arith in
-    row-passed (rw end at (c .before .loop .inv .1))
+    (row-passed (rw end at (c .before .loop .inv .2)), rw end at (c .before .loop .inv .3))
 
 pub own-row-spec : {M : Type 1} → statement M
 own-row-spec =
@@ -76,6 +89,7 @@ own-row-spec =
     mul-own-3
     element-copy-out-own
     own-requires
+    add-all
     mul-out
     element-write-out
     add-j

@@ -1,51 +1,59 @@
--- `deciding::deciding::decide_row` meets its contract. The loop's invariant: the marks below j are decided, the others as they were. Assumes nothing.
-use mathlib.Core.Path.{_≡_}
-use Prim.Native.Nat.{_-_, _≤_}
+-- `deciding::deciding::decide_row` meets its contract. The loop's invariant: the marks of the groups below q are decided, those from 8 * q on as they were. Assumes nothing.
+use mathlib.Core.Path.{sym, _∙_}
+use mathlib.Core.Logic.{⊎-elim}
+use Prim.Native.Nat.{_*_, _-_, _≤_}
 use native.Mathlib.Omega.{arith}
+use borrow.Author.Tests.{not-false}
 use Rattle.deciding.specs.Deciding.{apart, deciding}
-use Rattle.deciding.proofs.Rows.{Passed, passed-none, passed-store, row-passed}
+use Rattle.deciding.proofs.ApartLaws.{eight-kept}
+use Rattle.deciding.proofs.Rows.{Passed, passed-none, passed-kept, passed-changed, row-wider}
 use Rattle.deciding.proofs.deciding.decide_row.Statement.{statement}
 use Rattle.deciding.proofs.deciding.decide_row.Tie as tie
 
 abbrev Inv-loop : tie.InvT-loop
-Inv-loop order reach ruled lo hi c out₀ j₀ out j = (j ≤ hi) × Passed lo j (λ i x. apart c x (deciding order reach ruled c i)) out₀ out
+Inv-loop order reach ruled lo hi c out₀ q₀ q-end out q = (q ≤ q-end) × Passed (8 * q₀) (8 * q) (λ i x. apart c x (deciding order reach ruled c i)) out₀ out
 
 abbrev μ-loop : tie.MeasureT-loop
-μ-loop order reach ruled lo hi c out₀ j₀ out j = hi - j
+μ-loop order reach ruled lo hi c out₀ q₀ q-end out q = q-end - q
+
+add-q-end : tie.Need-add-q-end Inv-loop μ-loop
+add-q-end c = omega arith
 
 loop-holds : tie.Need-loop-holds Inv-loop μ-loop
-loop-holds c = (c .pre .1, passed-none _ _ _ (c .pre .3))
+loop-holds c = (omega arith, passed-none _ _ _ (c .pre .3))
 
-mul-narrow : tie.Need-mul-narrow Inv-loop μ-loop
-mul-narrow c = omega arith
+mul-eight-agreed : tie.Need-mul-eight-agreed Inv-loop μ-loop
+mul-eight-agreed c = omega arith
 
-element-copy-out-narrow : tie.Need-element-copy-out-narrow Inv-loop μ-loop
-element-copy-out-narrow c = omega arith
+eight-agreed-requires : tie.Need-eight-agreed-requires Inv-loop μ-loop
+eight-agreed-requires c κs = (c .before .before .before .pre .0, omega arith, c .before .before .loop .inv .1 .long)
 
-narrow-requires : tie.Need-narrow-requires Inv-loop μ-loop
-narrow-requires c κs =
-    let s = c .before .before .before in
-    (s .pre .0, omega arith, s .pre .4)
+mul-decide-eight : tie.Need-mul-decide-eight Inv-loop μ-loop
+mul-decide-eight c = omega arith
 
-mul-out : tie.Need-mul-out Inv-loop μ-loop
-mul-out c = omega arith
+decide-eight-requires : tie.Need-decide-eight-requires Inv-loop μ-loop
+decide-eight-requires c κs =
+    let l = c .before .before .before .before .before in
+    (l .before .pre .0, omega arith, l .loop .inv .1 .long, l .before .pre .4)
 
-element-write-out : tie.Need-element-write-out Inv-loop μ-loop
-element-write-out c = omega arith
-
-add-j : tie.Need-add-j Inv-loop μ-loop
-add-j c = omega arith
+add-q : tie.Need-add-q Inv-loop μ-loop
+add-q c = omega arith
 
 loop-less : tie.Need-loop-less Inv-loop μ-loop
 loop-less c = omega arith
 
 loop-again : tie.Need-loop-again Inv-loop μ-loop
-loop-again c = (omega arith, passed-store _ (c .before .before .before .loop .inv .1) (omega arith) (c .narrow .ensures))
+loop-again c =
+    let l = c .before .before .before .before .loop in (
+      omega arith,
+      ⊎-elim
+          (λ w. rw (w .3) (passed-changed (l .q) (l .inv .1) (w .2 .ensures)))
+          (λ w. rw (w .1) (passed-kept (l .q) (l .inv .1) (eight-kept _ _ (l .out) _ (sym (c .before .eight-agreed .ensures) ∙ not-false _ (w .0 .left)))))
+          (c .if1 .came),
+    )
 
 returns : tie.Need-returns Inv-loop μ-loop
-returns c =
-    let end : c .before .loop .j ≡ c .before .before .args .hi = omega arith in
-    row-passed (rw end at (c .before .loop .inv .1))
+returns c = row-wider (omega arith) (omega arith) (c .before .loop .inv .1)
 
 pub decide-row-spec : {M : Type 1} → statement M
 decide-row-spec =
@@ -53,13 +61,13 @@ decide-row-spec =
     (tie.spec
     Inv-loop
     μ-loop
+    add-q-end
     loop-holds
-    mul-narrow
-    element-copy-out-narrow
-    narrow-requires
-    mul-out
-    element-write-out
-    add-j
+    mul-eight-agreed
+    eight-agreed-requires
+    mul-decide-eight
+    decide-eight-requires
+    add-q
     loop-less
     loop-again
     returns)
