@@ -2,16 +2,15 @@
 --     untouched-awaiting    the walk visits what the change can touch, so the kinds that it leaves out have their lookups
 --     untouched-stops       only whether the kinds of the book are stops plays a part
 -- Assumes nothing.
-use mathlib.Core.Path.{_≡_, refl, sym, _∙_}
+use mathlib.Core.Path.{_≡_, refl, sym}
 use mathlib.Core.Bool.{Bool}
 use mathlib.Core.List.{List}
 use Prim.Native.Nat.{ℕ, _<_, _≤_}
-use native.Mathlib.Omega.{arith}
-use borrow.Author.Tests.{lt-ltb}
 use Rattle.inheritance.proofs.TouchLaws.{below-carries}
 use Rattle.propagation.specs.Spread.{under, stop, Touched}
 use Rattle.relation.specs.Bit.{bit}
 use Rattle.relation.specs.Turned.{Turned}
+use Rattle.relation.proofs.Turning.{turned-within}
 use Rattle.settling.specs.Settled.{Awaiting}
 use Rattle.calls.specs.Edits.{Untouched}
 
@@ -32,4 +31,4 @@ module _ (n m lo hi : ℕ) (e : ℕ) (rules entries : List ℕ) where
       (below-carries n (bit rows) (under children) (stop stops) (stop stops) e (λ c p hc hp ne. turned-round c p hc hp) (λ c hc ne. refl) hk below))
     where
       turned-round : (c p : ℕ) → c < n → p < n → bit rows c p ≡ under children c p
-      turned-round c p hc hp = sym (turned .bits p c (omega arith) ∙ rw (lt-ltb c n hc, lt-ltb p n hp) refl)
+      turned-round c p hc hp = sym (turned-within turned p c kinds hp hc)

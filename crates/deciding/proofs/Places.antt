@@ -1,26 +1,23 @@
 -- Places as bits of two words, and the first of them.
 --     first-same                   tests that agree have the same first place
 --     first-is, first-all          the first place is `first-below`; it is the end just where none passes
---     zeros-first                  the first bit of a word is after its trailing zeros
 --     two-words                    the places of two rows, put together word by word
 -- Assumes nothing.
-use mathlib.Core.Path.{_≡_, refl, sym, _∙_, ap, ap₂, subst}
+use mathlib.Core.Path.{_≡_, refl, sym, _∙_, ap, ap₂}
 use mathlib.Core.Logic.{by-cases}
 use mathlib.Core.Bool.{Bool, true, false, not, true≢false}
 use mathlib.Core.List.{List, [], _∷_}
-use Prim.Native.Nat.{ℕ, zero, suc, _+_, _-_, _*_, _/_, _^_, _<_}
-use native.Mathlib.Nat.{zero-add}
+use Prim.Native.Nat.{ℕ, zero, suc, _+_, _-_, _*_, _<_}
 use native.Mathlib.Decide.{decLt}
 use native.Mathlib.Omega.{arith}
 use borrow.Author.Tests.{eq-eqb, ne-eqb}
-use lib.Count.{trailingZeros, trailing-le}
 use lib.Dec.{eqb}
 use lib.ListN.{getD}
 use Rattle.inheritance.specs.Lookup.{some-below}
 use Rattle.inheritance.proofs.LeftLaws.{some-true, true-some}
 use Rattle.relation.specs.Bit.{on, bit}
 use Rattle.relation.specs.First.{First}
-use Rattle.relation.proofs.Walking.{word-first, word-none, bit-low, bit-high}
+use Rattle.relation.proofs.Walking.{bit-low, bit-high}
 use Rattle.deciding.specs.Deciding.{first-below}
 
 module _ (f : ℕ → Bool) where
@@ -75,13 +72,6 @@ module _ (f : ℕ → Bool) where
       by-some : (b : Bool) → some-below f k ≡ b → eqb r k ≡ not b
       by-some true e = let (i, l, p) = some-true f k e in ne-eqb r k (λ q. true≢false (sym p ∙ s .none i (omega arith) (omega arith)))
       by-some false e = eq-eqb r k (by-cases (decLt r k) (λ h. absurd (true≢false (sym (s .found h) ∙ none-false k e r h))) (λ h. omega (arith, s .high)))
-
-pub zeros-first : (w : ℕ) → First (on w) 0 64 (trailingZeros 64 w)
-zeros-first w =
-    let same : w / 2 ^ 0 ≡ w = omega arith in
-    subst (λ (x : ℕ). First (on w) 0 64 (trailingZeros 64 x)) same (by-cases (decLt (trailingZeros 64 (w / 2 ^ 0)) 64)
-    (λ h. subst (First (on w) 0 64) (zero-add (trailingZeros 64 (w / 2 ^ 0))) (word-first w 0 (omega arith)))
-    (λ h. let all : 64 ≡ trailingZeros 64 (w / 2 ^ 0) = omega (arith, trailing-le 64 (w / 2 ^ 0)) in subst (First (on w) 0 64) all (word-none w 0 (omega arith) (omega arith))))
 
 module _ (op : ℕ → ℕ → ℕ) (g : Bool → Bool → Bool) (each : (x y k : ℕ) → on (op x y) k ≡ g (on x k) (on y k)) where
   -- row c of a with row j of b

@@ -4,7 +4,6 @@
 --     both-true                         the parts of a conjunction that is true
 --     same-test                         two tests are equal where each equation follows from the other
 --     both-eqb, eqb-both                two tests of equality at once
---     and-swap                          three truth values, in another order
 --     ltb-more                          what is below b + 1
 --     one-more                          what passes below b, and what passes at b
 -- Assumes nothing.
@@ -27,10 +26,6 @@ and-false false = refl
 pub and-true : (b : Bool) → (b && true) ≡ b
 and-true true = refl
 and-true false = refl
-
-pub and-swap : (r s t : Bool) → (r && (s && t)) ≡ (s && (r && t))
-and-swap true s t = refl
-and-swap false s t = sym (and-false s)
 
 pub same-bool : (s t : Bool) → (s ≡ true → t ≡ true) → (t ≡ true → s ≡ true) → s ≡ t
 same-bool true true there back = refl

@@ -1,5 +1,6 @@
 -- Eight tests at once: their bits in a byte, and that byte's bits in a row.
 --     octet-none, octet-more     no test yet; one more
+--     on-shl, on-tail            a word that is moved up; a word without the bits before a place
 --     bit-octet                  what a bit is after an octet is added to a row
 -- Assumes nothing.
 use mathlib.Core.Path.{_≡_, refl, sym, ap, _∙_}
@@ -59,6 +60,16 @@ on-shl w s k = go (leb s k) refl
         let h = leb-false s k e in
         let split : s ≡ suc (s - suc k) + k = omega arith in
         ap (λ (x : ℕ). on (w * 2 ^ x) k) split ∙ on-below w (s - suc k) k
+
+-- the word without the bits before s
+pub on-tail : (w s k : ℕ) → on (w / 2 ^ s * 2 ^ s) k ≡ (leb s k && on w k)
+on-tail w s k = on-shl (w / 2 ^ s) s k ∙ go (leb s k) refl
+  where
+    go : (t : Bool) → leb s k ≡ t → (t && on (w / 2 ^ s) (k - s)) ≡ (t && on w k)
+    go true e =
+        let h = leb-true s k e in
+        on-shifted w s (k - s) ∙ ap (on w) (omega arith)
+    go false e = refl
 
 pub on-small : (w k : ℕ) → w < 256 → 8 ≤ k → on w k ≡ false
 unfolding on

@@ -1,23 +1,28 @@
--- The rows while `turn` goes through them, and through the kinds of each.
+-- The rows while `turn` goes through them, and through the two words of each.
 --     added-none, added-more, added-same    nothing is added; more is added after; the same, said otherwise
---     row-none, row-mark, row-skip          row c: no kind of it is gone through; kind p more, which is in it; all before the next that is
---     row-turned                            .. after the last kind
+--     Clearing                              the rows while a word's bits are gone through, the lowest first
+--     word-none, word-mark, word-turned     a word of row c: no kind of it is gone through; the first of those left, too; after the last
+--     row-turned                            row c, after both of its words
 --     turn-none, turn-more, turned          the rows: none is turned; one more; after the last row
 --     turned-within                         what `Turned` says of the kinds below n, as a caller uses it
 -- Assumes nothing.
 use mathlib.Core.Path.{_≡_, refl, sym, ap, _∙_}
-use mathlib.Core.Bool.{Bool, true, false, _&&_, _||_}
+use mathlib.Core.Logic.{by-cases}
+use mathlib.Core.Bool.{Bool, true, false, _&&_, _||_, not}
 use mathlib.Core.List.{List}
-use Prim.Native.Nat.{ℕ, _+_, _<_, _≤_, min, zero-le}
+use Prim.Native.Nat.{ℕ, _+_, _-_, _*_, _^_, _<_, _≤_, zero-le}
+use native.Mathlib.Decide.{decLt}
 use native.Mathlib.Omega.{arith}
-use borrow.Author.Tests.{lt-ltb, le-ltb}
-use lib.Dec.{eqb, ltb}
-use lib.ListN.{length}
-use Rattle.relation.specs.Bit.{bit, Blank, Added}
-use Rattle.relation.specs.First.{First}
+use borrow.Author.Tests.{eq-eqb, ne-eqb, eqb-true, eqb-false, lt-ltb, le-ltb, le-leb, lt-leb, leb-true}
+use lib.Bits.{bitAnd, and-le-l}
+use lib.Count.{trailingZeros}
+use lib.Dec.{eqb, ltb, leb}
+use lib.ListN.{getD, length}
+use Rattle.relation.specs.Bit.{on, bit, Blank, Added}
 use Rattle.relation.specs.Turned.{Turned}
-use Rattle.relation.proofs.Bools.{or-false, and-false, and-true, and-swap, one-more}
-use Rattle.relation.proofs.Walking.{first-skips}
+use Rattle.relation.proofs.Bools.{or-false, and-false, and-true, both-true, one-more}
+use Rattle.relation.proofs.Walking.{zeros-first, zeros-lt, lowest-off, bit-low, bit-high}
+use Rattle.relation.proofs.Zeros.{on-zero}
 
 added-none : (rows : List ℕ) (more : ℕ → ℕ → Bool) → length rows ≡ 256 → ((d q : ℕ) → more d q ≡ false) → Added rows rows more
 added-none rows more l none = record { long = l; bits = λ d q h. sym (rw (none d q) (or-false (bit rows d q))) }
@@ -38,58 +43,111 @@ added-more {old} {f = f} {g = g} more a b sum = record {
 added-same : {old new : List ℕ} {f : ℕ → ℕ → Bool} (more : ℕ → ℕ → Bool) → Added old new f → ((d q : ℕ) → f d q ≡ more d q) → Added old new more
 added-same {old} more a same = record { long = a .long; bits = λ d q h. a .bits d q h ∙ ap (λ (t : Bool). bit old d q || t) (same d q) }
 
--- ---- the kinds of a row
+-- ---- the kinds of a word
 
--- kind c is added to the rows of the kinds below k that are in row c
-unfoldable pub row-before : List ℕ → ℕ → ℕ → ℕ → ℕ → Bool
-row-before rows c k p d = ltb p k && (eqb d c && bit rows c p)
+-- the kinds of the word w that are not in `left`: kind c is added to their rows
+unfoldable pub word-gone : ℕ → ℕ → ℕ → ℕ → ℕ → ℕ → Bool
+word-gone w from c left p d = eqb d c && (leb from p && (ltb p (from + 64) && (on w (p - from) && not (on left (p - from)))))
 
-module _ (rows : List ℕ) (c : ℕ) where
-  pub row-none : (old : List ℕ) → length old ≡ 256 → Added old old (row-before rows c 0)
-  unfolding row-before
-  row-none old l = added-none old (row-before rows c 0) l (λ p d. rw (le-ltb p 0 zero-le) refl)
+pub record Clearing (w from c left : ℕ) (old new : List ℕ) : Type 0 where
+  pub small : left < 2 ^ 64
+  pub within : (k : ℕ) → on left k ≡ true → on w k ≡ true
+  pub added : Added old new (word-gone w from c left)
 
-  pub row-mark : (p : ℕ) {old mid new : List ℕ} → bit rows c p ≡ true → Added old mid (row-before rows c p)
-      → Added mid new (λ q d. eqb q p && eqb d c) → Added old new (row-before rows c (p + 1))
-  unfolding row-before
-  row-mark p is a b = added-more (row-before rows c (p + 1)) a b (λ q d.
-      ap (λ (t : Bool). (ltb q p && (eqb d c && bit rows c q)) || (eqb q p && t)) (sym (ap (λ (t : Bool). eqb d c && t) is ∙ and-true (eqb d c)))
-      ∙ one-more (λ x. eqb d c && bit rows c x) q p)
+none-gone : (e a b f : Bool) → (e && (a && (b && (f && not f)))) ≡ false
+none-gone e a b true = rw (and-false, and-false, and-false) refl
+none-gone e a b false = rw (and-false, and-false, and-false) refl
 
-  pub row-skip : {n k p : ℕ} {old new : List ℕ} → First (bit rows c) k 128 p → k ≤ n → Added old new (row-before rows c k) → Added old new (row-before rows c (min p n))
-  unfolding row-before
-  row-skip {n} {k} {p} s h a = added-same (row-before rows c (min p n)) a (λ q d.
-      sym (first-skips (λ x. ltb q x && (eqb d c && bit rows c q)) (bit rows c) (past q d) s h))
+one-gone : (e : Bool) → ((e && false) || e) ≡ (e && true)
+one-gone true = refl
+one-gone false = refl
+
+same-gone : (e a b f g z : Bool) → (a ≡ true → z ≡ false)
+    → ((e && (a && (b && (f && not g)))) || false) ≡ (e && (a && (b && (f && not (g && not z)))))
+same-gone e true b f g z h = rw (h refl, and-true, or-false) refl
+same-gone e false b f g z h = or-false (e && false)
+
+module _ (w from c : ℕ) where
+  pub word-none : {old : List ℕ} → w < 2 ^ 64 → length old ≡ 256 → Clearing w from c w old old
+  unfolding word-gone
+  word-none h l = record {
+    small = h;
+    within = λ k is. is;
+    added = added-none _ (word-gone w from c w) l (λ p d. none-gone (eqb d c) (leb from p) (ltb p (from + 64)) (on w (p - from)));
+  }
+
+  pub word-mark : (left : ℕ) {old mid new : List ℕ} → 0 < left → Clearing w from c left old mid
+      → Added mid new (λ q d. eqb q (from + trailingZeros 64 left) && eqb d c) → Clearing w from c (bitAnd left (left - 1)) old new
+  unfolding word-gone
+  word-mark left h a b = record {
+    small = omega (arith, and-le-l left (left - 1), a .small);
+    within = λ k is. a .within k (both-true (on left k) (not (eqb k zeros)) (sym (lowest-off left k (a .small) h) ∙ is) .0);
+    added = added-more (word-gone w from c (bitAnd left (left - 1))) (a .added) b (λ p d.
+        more p d (eqb p (from + zeros)) refl
+        ∙ ap (λ (t : Bool). eqb d c && (leb from p && (ltb p (from + 64) && (on w (p - from) && not t)))) (sym (lowest-off left (p - from) (a .small) h)));
+  }
     where
-      past : (q d x : ℕ) → bit rows c x ≡ false → (ltb q (x + 1) && (eqb d c && bit rows c q)) ≡ (ltb q x && (eqb d c && bit rows c q))
-      past q d x off =
-          sym (one-more (λ y. eqb d c && bit rows c y) q x)
-          ∙ ap (λ (t : Bool). (ltb q x && (eqb d c && bit rows c q)) || (eqb q x && (eqb d c && t))) off
-          ∙ rw (and-false, and-false) (or-false (ltb q x && (eqb d c && bit rows c q)))
+      zeros : ℕ
+      zeros = trailingZeros 64 left
 
-  pub row-turned : (n : ℕ) {old new : List ℕ} → Added old new (row-before rows c n) → Added old new (λ p d. eqb d c && (ltb p n && bit rows c p))
-  unfolding row-before
-  row-turned n a = added-same (λ p d. eqb d c && (ltb p n && bit rows c p)) a (λ p d. and-swap (ltb p n) (eqb d c) (bit rows c p))
+      gone : ℕ → ℕ → Bool
+      gone p d = eqb d c && (leb from p && (ltb p (from + 64) && (on w (p - from) && not (on left (p - from)))))
+
+      more : (p d : ℕ) (t : Bool) → eqb p (from + zeros) ≡ t
+          → (gone p d || (t && eqb d c)) ≡ (eqb d c && (leb from p && (ltb p (from + 64) && (on w (p - from) && not (on left (p - from) && not (eqb (p - from) zeros))))))
+      more p d true e =
+          let at : p ≡ from + zeros = eqb-true p (from + zeros) e in
+          let less = zeros-lt 64 left (a .small) h in
+          let bit-at : p - from ≡ zeros = omega arith in
+          let is : on left zeros ≡ true = zeros-first left .found less in
+          rw (bit-at, le-leb from p (omega arith), lt-ltb p (from + 64) (omega arith), a .within zeros is, is, eq-eqb zeros zeros refl) (one-gone (eqb d c))
+      more p d false e = same-gone (eqb d c) (leb from p) (ltb p (from + 64)) (on w (p - from)) (on left (p - from)) (eqb (p - from) zeros) (λ t.
+          let l = leb-true from p t in
+          let other = eqb-false p (from + zeros) e in
+          ne-eqb (p - from) zeros (λ same. other (omega arith)))
+
+  pub word-turned : {old new : List ℕ} → Clearing w from c 0 old new → Added old new (λ p d. eqb d c && (leb from p && (ltb p (from + 64) && on w (p - from))))
+  unfolding word-gone
+  word-turned a = added-same (λ p d. eqb d c && (leb from p && (ltb p (from + 64) && on w (p - from)))) (a .added) (λ p d. rw (on-zero (p - from), and-true) refl)
+
+-- ---- the words of a row
+
+either : (e s t u : Bool) → (s || t) ≡ u → ((e && s) || (e && t)) ≡ (e && u)
+either true s t u h = h
+either false s t u h = refl
+
+pub row-turned : (rows : List ℕ) (c : ℕ) {old mid new : List ℕ}
+    → Added old mid (λ p d. eqb d c && (leb 0 p && (ltb p 64 && on (getD rows (2 * c) 0) (p - 0))))
+    → Added mid new (λ p d. eqb d c && (leb 64 p && (ltb p 128 && on (getD rows (2 * c + 1) 0) (p - 64))))
+    → Added old new (λ p d. eqb d c && (ltb p 128 && bit rows c p))
+row-turned rows c a b = added-more (λ p d. eqb d c && (ltb p 128 && bit rows c p)) a b (λ p d. either (eqb d c) _ _ _ (words p))
+  where
+    words : (p : ℕ) → ((leb 0 p && (ltb p 64 && on (getD rows (2 * c) 0) (p - 0))) || (leb 64 p && (ltb p 128 && on (getD rows (2 * c + 1) 0) (p - 64)))) ≡ (ltb p 128 && bit rows c p)
+    words p = by-cases (decLt p 64)
+        (λ low. let whole : p - 0 ≡ p = omega arith in rw (whole, le-leb 0 p zero-le, lt-ltb p 64 low, lt-leb 64 p low, lt-ltb p 128 (omega arith), or-false) (sym (bit-low rows c p low)))
+        (λ mid. rw (le-leb 0 p zero-le, le-ltb p 64 (omega arith), le-leb 64 p (omega arith)) (by-cases (decLt p 128)
+        (λ high. rw (lt-ltb p 128 high) (sym (bit-high rows c p (omega arith) high)))
+        (λ past. rw (le-ltb p 128 (omega arith)) refl)))
 
 -- ---- the rows
 
 -- the rows below k are turned
-unfoldable pub rows-turned : List ℕ → ℕ → ℕ → ℕ → ℕ → Bool
-rows-turned rows n k p d = ltb d k && (ltb p n && bit rows d p)
+unfoldable pub rows-turned : List ℕ → ℕ → ℕ → ℕ → Bool
+rows-turned rows k p d = ltb d k && (ltb p 128 && bit rows d p)
 
-module _ (rows : List ℕ) (n : ℕ) where
-  pub turn-none : {old : List ℕ} → Blank old → Added old old (rows-turned rows n 0)
+module _ (rows : List ℕ) where
+  pub turn-none : {old : List ℕ} → Blank old → Added old old (rows-turned rows 0)
   unfolding rows-turned
-  turn-none b = added-none _ (rows-turned rows n 0) (b .long) (λ p d. rw (le-ltb d 0 zero-le) refl)
+  turn-none b = added-none _ (rows-turned rows 0) (b .long) (λ p d. rw (le-ltb d 0 zero-le) refl)
 
-  pub turn-more : (c : ℕ) {old mid new : List ℕ} → Added old mid (rows-turned rows n c)
-      → Added mid new (λ p d. eqb d c && (ltb p n && bit rows c p)) → Added old new (rows-turned rows n (c + 1))
+  pub turn-more : (c : ℕ) {old mid new : List ℕ} → Added old mid (rows-turned rows c)
+      → Added mid new (λ p d. eqb d c && (ltb p 128 && bit rows c p)) → Added old new (rows-turned rows (c + 1))
   unfolding rows-turned
-  turn-more c a b = added-more (rows-turned rows n (c + 1)) a b (λ p d. one-more (λ x. ltb p n && bit rows x p) d c)
+  turn-more c a b = added-more (rows-turned rows (c + 1)) a b (λ p d. one-more (λ x. ltb p 128 && bit rows x p) d c)
 
-  pub turned : {old new : List ℕ} → Blank old → Added old new (rows-turned rows n n) → Turned n rows new
+  pub turned : {n : ℕ} {old new : List ℕ} → Blank old → Added old new (rows-turned rows n) → Turned n rows new
   unfolding rows-turned
-  turned b a = record { long = a .long; bits = λ p c h. a .bits p c h ∙ rw (b .none p c) refl }
+  turned b a = record { long = a .long; bits = λ p c hp hc. a .bits p c hc ∙ rw (b .none p c, lt-ltb p 128 hp) refl }
 
 pub turned-within : {n : ℕ} {rows turned : List ℕ} → Turned n rows turned → (p c : ℕ) → n ≤ 128 → p < n → c < n → bit turned p c ≡ bit rows c p
-turned-within {n} s p c most hp hc = s .bits p c (omega arith) ∙ rw (lt-ltb c n hc, lt-ltb p n hp) refl
+turned-within {n} s p c most hp hc = s .bits p c (omega arith) (omega arith) ∙ rw (lt-ltb c n hc) refl

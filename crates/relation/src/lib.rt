@@ -2,7 +2,7 @@
 // links, and the rows turned round. `close` and `turn` say of every place what is there after.
 ghost use mathlib.Core.Path.{_≡_};
 ghost use mathlib.Core.Bool.{_&&_};
-ghost use Prim.Native.Nat.{_-_, _*_, _<_, _≤_};
+ghost use Prim.Native.Nat.{_+_, _-_, _*_, _<_, _≤_};
 ghost use lib.Dec.{eqb, ltb, leb};
 ghost use lib.ListN.{length};
 ghost use Rattle.relation.specs.Bit.{on, bit, Blank, Added, Removed};
@@ -23,8 +23,7 @@ fn first(w: u64, from: usize) -> usize
     requires { ⌜ from < 64 ⌝ }
     ensures { λ r. ⌜ First (on w) from 64 r ⌝ }
 {
-    let zeros = u64::trailing_zeros(w >> from) as usize;
-    if zeros < 64 - from { from + zeros } else { 64 }
+    u64::trailing_zeros(w >> from << from) as usize
 }
 
 // The first kind at or after `from` that is in row c; 128 where there is none.
@@ -126,16 +125,25 @@ pub fn close(rows: &mut [u64; 256], n: usize)
     }
 }
 
-// Kind c is put into row p of `turned` for each kind p below n that is in row c of `rows`.
-fn turn_row(rows: &[u64; 256], n: usize, c: usize, turned: &mut [u64; 256])
-    requires { ⌜ (n ≤ 128) × (c < n) × (length (now turned) ≡ 256) ⌝ }
-    ensures { λ _. ⌜ Added (now (turned .entry)) (now (turned .exit)) (λ p d. eqb d c && (ltb p n && bit (now (rows .entry)) c p)) ⌝ }
+// Kind c is put into row from + k of `turned` for each bit k of the word.
+fn turn_word(w: u64, from: usize, c: usize, turned: &mut [u64; 256])
+    requires { ⌜ (from ≤ 64) × (c < 128) × (length (now turned) ≡ 256) ⌝ }
+    ensures { λ _. ⌜ Added (now (turned .entry)) (now (turned .exit)) (λ p d. eqb d c && (leb from p && (ltb p (from + 64) && on w (p - from)))) ⌝ }
 {
-    let mut p = next(rows, c, 0);
-    while p < n {
-        mark(turned, p, c);
-        p = next(rows, c, p + 1);
+    let mut left = w;
+    while left != 0 {
+        mark(turned, from + u64::trailing_zeros(left) as usize, c);
+        left = left & (left - 1);
     }
+}
+
+// Kind c is put into row p of `turned` for each kind p that is in row c of `rows`.
+fn turn_row(rows: &[u64; 256], c: usize, turned: &mut [u64; 256])
+    requires { ⌜ (c < 128) × (length (now turned) ≡ 256) ⌝ }
+    ensures { λ _. ⌜ Added (now (turned .entry)) (now (turned .exit)) (λ p d. eqb d c && (ltb p 128 && bit (now (rows .entry)) c p)) ⌝ }
+{
+    turn_word(rows[2 * c], 0, c, turned);
+    turn_word(rows[2 * c + 1], 64, c, turned);
 }
 
 // The rows of the kinds below n are turned round: kind c is in row p of `turned`, which was blank, where kind p is in row c
@@ -145,6 +153,6 @@ pub fn turn(rows: &[u64; 256], n: usize, turned: &mut [u64; 256])
     ensures { λ _. ⌜ Turned n (now (rows .entry)) (now (turned .exit)) ⌝ }
 {
     for c in 0..n {
-        turn_row(rows, n, c, turned);
+        turn_row(rows, c, turned);
     }
 }

@@ -8,16 +8,16 @@ use Rattle.relation.proofs.turn.Statement.{statement}
 use Rattle.relation.proofs.turn.Tie as tie
 
 abbrev Inv-loop : tie.InvT-loop
-Inv-loop rows n turned₀ c₀ turned c = (c ≤ n) × Added turned₀ turned (rows-turned rows n c)
+Inv-loop rows n turned₀ c₀ turned c = (c ≤ n) × Added turned₀ turned (rows-turned rows c)
 
 abbrev μ-loop : tie.MeasureT-loop
 μ-loop rows n turned₀ c₀ turned c = n - c
 
 loop-holds : tie.Need-loop-holds Inv-loop μ-loop
-loop-holds c = (omega arith, turn-none _ _ (c .pre .1))
+loop-holds c = (omega arith, turn-none _ (c .pre .1))
 
 turn-row-requires : tie.Need-turn-row-requires Inv-loop μ-loop
-turn-row-requires c κs = (omega arith, omega arith, c .before .before .loop .inv .1 .long)
+turn-row-requires c κs = (omega arith, c .before .before .loop .inv .1 .long)
 
 add-c : tie.Need-add-c Inv-loop μ-loop
 add-c c = omega arith
@@ -26,12 +26,12 @@ loop-less : tie.Need-loop-less Inv-loop μ-loop
 loop-less c = omega arith
 
 loop-again : tie.Need-loop-again Inv-loop μ-loop
-loop-again c = (omega arith, turn-more _ _ _ (c .before .before .before .loop .inv .1) (c .turn-row .ensures))
+loop-again c = (omega arith, turn-more _ _ (c .before .before .before .loop .inv .1) (c .turn-row .ensures))
 
 returns : tie.Need-returns Inv-loop μ-loop
 returns c =
     let end : c .before .loop .c ≡ c .before .before .args .n = omega arith in
-    turned _ _ (c .before .before .pre .1) (rw end at (c .before .loop .inv .1))
+    turned _ (c .before .before .pre .1) (rw end at (c .before .loop .inv .1))
 
 pub turn-spec : {M : Type 1} → statement M
 turn-spec = tie.close (tie.spec Inv-loop μ-loop loop-holds turn-row-requires add-c loop-less loop-again returns)

@@ -2,8 +2,7 @@
 use native.Mathlib.Omega.{arith}
 use mathlib.Core.List.{[], _∷_}
 use lib.Count.{trailing-le}
-use Rattle.relation.proofs.Walking.{row-low, row-both}
-use Rattle.deciding.proofs.Places.{zeros-first}
+use Rattle.relation.proofs.Walking.{zeros-first, row-low, row-both}
 use Rattle.deciding.proofs.deciding.first_of.Statement.{statement}
 use Rattle.deciding.proofs.deciding.first_of.Tie as tie
 
