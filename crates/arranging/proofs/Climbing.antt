@@ -2,8 +2,9 @@
 --     Climbing                     the parents of c before p are gone through: the invariant of the loop
 --     climbing-none                c is on the way, and no parent is gone through
 --     climbing-up                  parent p is gone up from
---     climbing-on                  .. or was visited, and its row is joined into row c
+--     climbing-on                  .. or was visited, and its row is gathered
 --     climbing-skip, climbing-at   there is no parent before the next; and the next is a kind
+--     climbing-written             what was gathered is stored as row c
 --     fewer                        fewer kinds are unvisited than where c was
 --     climbed-placed, climbed      every parent is gone through, and c gets a place, or does not
 -- Assumes nothing.
@@ -11,20 +12,22 @@ use mathlib.Core.Path.{_≡_, refl, sym, ap, _∙_}
 use mathlib.Core.Logic.{_≢_, _⊎_, inl, inr, ⊎-elim, by-cases}
 use mathlib.Core.Bool.{Bool, true, false, _&&_, false≢true}
 use mathlib.Core.List.{List}
-use Prim.Native.Nat.{ℕ, _+_, _-_, _<_, _≤_, min}
+use Prim.Native.Nat.{ℕ, _+_, _-_, _*_, _<_, _≤_, min}
 use native.Mathlib.Decide.{ℕ-discrete, decLt}
 use native.Mathlib.Omega.{arith}
 use borrow.Author.Tests.{eq-eqb, eqb-true}
 use lib.Dec.{eqb}
-use lib.ListN.{length, set}
+use lib.Bits.{bitOr}
+use lib.ListN.{length, getD, set}
 use lib.Seq.{getD-set-same, getD-set-other}
 use Rattle.inheritance.specs.Above.{Chain, link, Upto, Acyclic, count}
 use Rattle.inheritance.proofs.AboveLaws.{count-lt, upto-chain, no-chain}
 use Rattle.relation.specs.Bit.{bit}
 use Rattle.relation.specs.First.{First}
-use Rattle.arranging.specs.Arranged.{state, unvisited, Joined, Placed, Fresh, Climbed}
+use Rattle.arranging.specs.Arranged.{state, unvisited, Placed, Fresh, Climbed}
 use Rattle.relation.proofs.Bools.{both-true}
-use Rattle.arranging.proofs.Placing.{SetAt, set-at, Widened, joined-none, joined-kept, joined-parent, apart, placed-row, placed-visit, placed-more}
+use Rattle.arranging.proofs.Placing.{SetAt, set-at, Widened, apart, placed-row, placed-visit, placed-more}
+use Rattle.arranging.proofs.Gathering.{Gathered, Written, gathered-none, gathered-kept, gathered-more, gathered-written, gathered-joined}
 
 unvisited-at : (s : List ℕ) (d x : ℕ) → state s d ≡ x → unvisited s d ≡ eqb x 0
 unfolding unvisited
@@ -35,12 +38,12 @@ unfolding unvisited
 unvisited-is s d e = eqb-true (state s d) 0 e
 
 -- v and reach where the loop began, w and reach′ now
-pub record Climbing (n : ℕ) (up : ℕ → ℕ → Bool) (c p k : ℕ) (good : Bool) (v w order reach reach′ : List ℕ) : Type 0 where
+pub record Climbing (n : ℕ) (up : ℕ → ℕ → Bool) (c p k : ℕ) (good : Bool) (low high : ℕ) (v w order reach reach′ : List ℕ) : Type 0 where
   pub within : p ≤ n
   pub placed : Placed n up k w order reach′
   pub states : (d : ℕ) → d < n → state v d ≢ 0 → state w d ≡ state v d
   pub rows : (d q : ℕ) → d < n → q < 128 → d ≢ c → state v d ≢ 0 → bit reach′ d q ≡ bit reach d q
-  pub joined : Joined up reach′ c p (λ q. ⊥)
+  pub gathered : Gathered up reach′ c p low high
   pub gone : (x : ℕ) → x < p → up c x ≡ true → state w x ≢ 0
   pub fit : good ≡ true → (x : ℕ) → x < p → up c x ≡ true → state w x ≡ 2
   pub calm : Acyclic n up → ((g : ℕ) → g < n → state v g ≡ 1 → Upto n up g c)
@@ -48,33 +51,31 @@ pub record Climbing (n : ℕ) (up : ℕ → ℕ → Bool) (c p k : ℕ) (good : 
 
 module _ {n : ℕ} {up : ℕ → ℕ → Bool} {c : ℕ} (most : n ≤ 128) where
   pub climbing-none : {k : ℕ} {s order reach : List ℕ} → Fresh n c s → Placed n up k s order reach
-      → Climbing n up c 0 k true (set s c 1) (set s c 1) order reach reach
+      → Climbing n up c 0 k true 0 0 (set s c 1) (set s c 1) order reach reach
   climbing-none {s = s} {reach = reach} f p = record {
     within = omega arith;
     placed = placed-visit p most (f .kind) (f .new);
     states = λ d l ne. refl;
     rows = λ d q l h ne vis. refl;
-    joined = joined-none reach (λ q h. p .blank c q (f .kind) h (f .new));
+    gathered = gathered-none reach;
     gone = λ x l. absurd (omega arith);
     fit = λ g x l. absurd (omega arith);
     calm = λ acyclic way. (refl, λ d l e. e);
   }
 
-  module _ {p k : ℕ} {good : Bool} {v w order reach reach′ : List ℕ} (lt : c < n) (way : state v c ≡ 1)
-      (s : Climbing n up c p k good v w order reach reach′) where
+  module _ {p k : ℕ} {good : Bool} {low high : ℕ} {v w order reach reach′ : List ℕ} (lt : c < n) (way : state v c ≡ 1)
+      (s : Climbing n up c p k good low high v w order reach reach′) where
     pub on-way : state w c ≡ 1
     on-way = s .states c lt (omega arith) ∙ way
 
     pub climbing-up : {k′ : ℕ} {w′ order′ reach″ : List ℕ} → p < n → up c p ≡ true → Placed n up k′ w′ order′ reach″ → Climbed n up p w w′ reach′ reach″
-        → Climbing n up c p k′ good v w′ order′ reach reach″
+        → Climbing n up c p k′ good low high v w′ order′ reach reach″
     climbing-up {w′ = w′} {reach″ = reach″} l u placed m = record {
       within = s .within;
       placed = placed;
       states = λ d h ne. m .kept .states d h (was d h ne) ∙ s .states d h ne;
       rows = λ d q h hq ne vis. m .kept .rows d q h hq (was d h vis) ∙ s .rows d q h hq ne vis;
-      joined =
-          joined-kept reach′ reach″ (λ q h. m .kept .rows c q lt h (was c lt (omega arith)))
-          (λ x q h hq e. m .kept .rows x q (omega arith) hq (s .gone x h e)) (s .joined);
+      gathered = gathered-kept reach′ reach″ (λ x q h hq e. m .kept .rows x q (omega arith) hq (s .gone x h e)) (s .gathered);
       gone = λ x h e. let was = s .gone x h e in omega (arith, m .kept .states x (omega arith) was);
       fit = λ g x h e. let two = s .fit g x h e in m .kept .states x (omega arith) (omega arith) ∙ two;
       calm = λ acyclic ways.
@@ -85,14 +86,14 @@ module _ {n : ℕ} {up : ℕ → ℕ → Bool} {c : ℕ} (most : n ≤ 128) wher
         was : (d : ℕ) → d < n → state v d ≢ 0 → state w d ≢ 0
         was d h ne = omega (arith, s .states d h ne)
 
-    pub climbing-on : {reach″ : List ℕ} → p < n → up c p ≡ true → state w p ≢ 0 → Widened c (bit reach′ p) reach′ reach″
-        → Climbing n up c (p + 1) k (good && eqb (state w p) 2) v w order reach reach″
-    climbing-on {reach″} l u vis a = record {
+    pub climbing-on : p < n → up c p ≡ true → state w p ≢ 0
+        → Climbing n up c (p + 1) k (good && eqb (state w p) 2) (bitOr low (getD reach′ (2 * p) 0)) (bitOr high (getD reach′ (2 * p + 1) 0)) v w order reach reach′
+    climbing-on l u vis = record {
       within = omega arith;
-      placed = placed-row (s .placed) on-way a;
+      placed = s .placed;
       states = s .states;
-      rows = λ d q h hq ne was. a .other d q hq ne ∙ s .rows d q h hq ne was;
-      joined = joined-parent u a (s .joined);
+      rows = s .rows;
+      gathered = gathered-more u (s .gathered);
       gone = λ x h e. by-cases (decLt x p) (λ m. s .gone x m e) (λ m. let same : x ≡ p = omega arith in omega (arith, ap (state w) same));
       fit = λ g x h e.
           let both = both-true good (eqb (state w p) 2) g in
@@ -106,16 +107,15 @@ module _ {n : ℕ} {up : ℕ → ℕ → Bool} {c : ℕ} (most : n ≤ 128) wher
             let no : state w p ≢ 1 = λ one. no-chain n up acyclic l (upto-chain n up (ways p l (old p l one)) (link l u)) in
             omega (arith, s .placed .small p)
 
-    pub climbing-skip : {i : ℕ} → First (up c) p 128 i → Climbing n up c (min i n) k good v w order reach reach′
+    pub climbing-skip : {i : ℕ} → First (up c) p 128 i → Climbing n up c (min i n) k good low high v w order reach reach′
     climbing-skip {i} f = record {
       within = omega arith;
       placed = s .placed;
       states = s .states;
       rows = s .rows;
-      joined = record {
-        ours = s .joined .ours;
-        theirs = λ x q l h u. s .joined .theirs x q (before x l u) h u;
-        only = λ q h e. ⊎-elim inl (λ y. inr (y .0, omega (arith, y .1, f .low, s .within), y .2, y .3)) (s .joined .only q h e);
+      gathered = record {
+        theirs = λ x q l h u. s .gathered .theirs x q (before x l u) h u;
+        only = λ q h e. let (x, l, u, b) = s .gathered .only q h e in (x, omega (arith, f .low, s .within), u, b);
       };
       gone = λ x l u. s .gone x (before x l u) u;
       fit = λ g x l u. s .fit g x (before x l u) u;
@@ -125,10 +125,22 @@ module _ {n : ℕ} {up : ℕ → ℕ → Bool} {c : ℕ} (most : n ≤ 128) wher
         before : (x : ℕ) → x < min i n → up c x ≡ true → x < p
         before x l u = by-cases (decLt x p) (λ m. m) (λ m. absurd (false≢true (sym (f .none x (omega arith) (omega arith)) ∙ u)))
 
+    pub climbing-written : {reach″ : List ℕ} → Written c low high reach′ reach″ → Climbing n up c p k good low high v w order reach reach″
+    climbing-written a = record {
+      within = s .within;
+      placed = placed-row (s .placed) on-way (a .long) (a .other);
+      states = s .states;
+      rows = λ d q h hq ne was. a .other d q hq ne ∙ s .rows d q h hq ne was;
+      gathered = gathered-written a (s .gathered);
+      gone = s .gone;
+      fit = s .fit;
+      calm = s .calm;
+    }
+
   -- ---- from where c was not visited
 
-  module _ {p k : ℕ} {good : Bool} {s w order order₀ reach reach′ : List ℕ} {k₀ : ℕ} (f : Fresh n c s) (p₀ : Placed n up k₀ s order₀ reach)
-      (m : Climbing n up c p k good (set s c 1) w order reach reach′) where
+  module _ {p k : ℕ} {good : Bool} {low high : ℕ} {s w order order₀ reach reach′ : List ℕ} {k₀ : ℕ} (f : Fresh n c s) (p₀ : Placed n up k₀ s order₀ reach)
+      (m : Climbing n up c p k good low high (set s c 1) w order reach reach′) where
     in-list : c < length s
     in-list = omega (arith, f .kind, p₀ .long-states)
 
@@ -182,22 +194,26 @@ module _ {n : ℕ} {up : ℕ → ℕ → Bool} {c : ℕ} (most : n ≤ 128) wher
               go (yes e) = inl e
               go (no e) = inr e
 
-  pub climbed-placed : {k k₀ : ℕ} {s w order order₀ reach reach′ reach″ : List ℕ} → Fresh n c s → Placed n up k₀ s order₀ reach
-      → Climbing n up c n k true (set s c 1) w order reach reach′ → Widened c (λ q. eqb q (n - 1 - k)) reach′ reach″
+  pub climbed-placed : {k k₀ low high : ℕ} {s w order order₀ reach old reach′ reach″ : List ℕ} → Fresh n c s → Placed n up k₀ s order₀ reach
+      → Climbing n up c n k true low high (set s c 1) w order reach old → Written c low high old reach′
+      → Widened c (λ q. eqb q (n - 1 - k)) reach′ reach″
       → (Placed n up (k + 1) (set w c 2) (set order (n - 1 - k) c) reach″) × (Climbed n up c s (set w c 2) reach reach″)
-  climbed-placed {w = w} f p₀ m a =
+  climbed-placed {w = w} f p₀ was b a =
+      let m = climbing-written (f .kind) (marked f p₀ was) was b in
       let here : c < length w = omega (arith, f .kind, m .placed .long-states) in
       let two : state (set w c 2) c ≡ 2 = getD-set-same w c 2 0 here in (
-        placed-more (m .placed) most (f .kind) (on-way (f .kind) (marked f p₀ m) m) (m .fit refl) (m .joined) a,
+        placed-more (m .placed) most (f .kind) (on-way (f .kind) (marked f p₀ m) m) (m .fit refl) (gathered-joined (b .own) (m .gathered)) a,
         climbed-so f p₀ m (λ d ne. getD-set-other w c d 2 0 ne) (a .other) (omega arith) (λ g. omega arith),
       )
 
-  pub climbed : {k k₀ : ℕ} {s w order order₀ reach reach′ : List ℕ} → Fresh n c s → Placed n up k₀ s order₀ reach
-      → Climbing n up c n k false (set s c 1) w order reach reach′ → Climbed n up c s w reach reach′
-  climbed f p₀ m =
+  pub climbed : {k k₀ low high : ℕ} {s w order order₀ reach old reach′ : List ℕ} → Fresh n c s → Placed n up k₀ s order₀ reach
+      → Climbing n up c n k false low high (set s c 1) w order reach old → Written c low high old reach′
+      → (Placed n up k w order reach′) × (Climbed n up c s w reach reach′)
+  climbed f p₀ was b =
+      let m = climbing-written (f .kind) (marked f p₀ was) was b in
       let one = on-way (f .kind) (marked f p₀ m) m in
-      climbed-so f p₀ m (λ d ne. refl) (λ d q h ne. refl) (omega arith) (λ (g : false ≡ true). absurd (false≢true g))
+      (m .placed, climbed-so f p₀ m (λ d ne. refl) (λ d q h ne. refl) (omega arith) (λ (g : false ≡ true). absurd (false≢true g)))
 
-pub climbing-at : (p : ℕ) {n : ℕ} {up : ℕ → ℕ → Bool} {c k : ℕ} {good : Bool} {v w order reach reach′ : List ℕ} → p < n
-    → Climbing n up c (min p n) k good v w order reach reach′ → Climbing n up c p k good v w order reach reach′
+pub climbing-at : (p : ℕ) {n : ℕ} {up : ℕ → ℕ → Bool} {c k : ℕ} {good : Bool} {low high : ℕ} {v w order reach reach′ : List ℕ} → p < n
+    → Climbing n up c (min p n) k good low high v w order reach reach′ → Climbing n up c p k good low high v w order reach reach′
 climbing-at p {n} lt s = let at : min p n ≡ p = omega arith in rw at at s

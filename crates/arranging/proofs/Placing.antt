@@ -2,15 +2,14 @@
 --     set-at                           what stands at j after a store at k
 --     count-all, -none, -some, -one    counts: all pass; none; some; one more
 --     Widened, widened                 one row has more, and the others are as they were
---     joined-none, joined-kept         row c: before its first parent; in rows that are the same where it counts
---     joined-parent, joined-own        .. with one parent more; with a place of its own
+--     joined-kept, joined-own          row c: in rows that are the same where it counts; with a place of its own
 --     placed-none                      no kind has a place
---     placed-row                       the row of a kind on the way is added to
+--     placed-row                       the row of a kind on the way is another
 --     placed-visit, placed-more        one kind more is on the way; one more has a place, whose parents all have theirs
 -- Assumes nothing.
 use mathlib.Core.Path.{_≡_, refl, sym, ap, subst, _∙_}
 use mathlib.Core.Logic.{_≢_, _⊎_, inl, inr, ⊎-elim}
-use mathlib.Core.Bool.{Bool, true, false, _&&_, _||_, not, or-true, true≢false}
+use mathlib.Core.Bool.{Bool, true, false, _&&_, _||_, not, or-true}
 use mathlib.Core.List.{List}
 use Prim.Native.Nat.{ℕ, zero, suc, _+_, _-_, _<_, _≤_}
 use native.Mathlib.Decide.{ℕ-discrete}
@@ -90,40 +89,12 @@ module _ {c : ℕ} {more : ℕ → Bool} {old new : List ℕ} (a : Widened c mor
   row-gets q h e = a .own q h ∙ rw e (or-true (bit old c q))
 
 module _ {up : ℕ → ℕ → Bool} {c : ℕ} where
-  pub joined-none : (reach : List ℕ) → ((q : ℕ) → q < 128 → bit reach c q ≡ false) → Joined up reach c 0 (λ q. ⊥)
-  joined-none reach blank = record {
-    ours = λ q h o. absurd o;
-    theirs = λ x q l h u e. absurd (omega arith);
-    only = λ q h e. absurd (true≢false (sym e ∙ blank q h));
-  }
-
   pub joined-kept : {p : ℕ} {own : ℕ → Type 0} (old new : List ℕ) → ((q : ℕ) → q < 128 → bit new c q ≡ bit old c q)
       → ((x q : ℕ) → x < p → q < 128 → up c x ≡ true → bit new x q ≡ bit old x q) → Joined up old c p own → Joined up new c p own
   joined-kept old new row rows j = record {
     ours = λ q h o. row q h ∙ j .ours q h o;
     theirs = λ x q l h u e. row q h ∙ j .theirs x q l h u (sym (rows x q l h u) ∙ e);
     only = λ q h e. ⊎-elim inl (λ w. inr (w .0, w .1, w .2, rows (w .0) q (w .1) h (w .2) ∙ w .3)) (j .only q h (sym (row q h) ∙ e));
-  }
-
-  joined-parent-theirs : {p : ℕ} {own : ℕ → Type 0} {old new : List ℕ} → Widened c (bit old p) old new → Joined up old c p own
-      → (x q : ℕ) → x < p + 1 → q < 128 → up c x ≡ true → bit new x q ≡ true → bit new c q ≡ true
-  joined-parent-theirs {p} {own} {old} {new} a j x q l h u e = go (ℕ-discrete x c) (ℕ-discrete x p)
-    where
-      go : Dec (x ≡ c) → Dec (x ≡ p) → bit new c q ≡ true
-      go (yes same) d = subst (λ (y : ℕ). bit new y q ≡ true) same e
-      go (no ne) (yes same) = row-gets a q h (subst (λ (y : ℕ). bit old y q ≡ true) same (sym (a .other x q h ne) ∙ e))
-      go (no ne) (no before) = row-had a c q h (j .theirs x q (omega arith) h u (sym (a .other x q h ne) ∙ e))
-
-  pub joined-parent : {p : ℕ} {own : ℕ → Type 0} {old new : List ℕ} → up c p ≡ true → Widened c (bit old p) old new
-      → Joined up old c p own → Joined up new c (p + 1) own
-  joined-parent {p} {own} {old} {new} u a j = record {
-    ours = λ q h o. row-had a c q h (j .ours q h o);
-    theirs = joined-parent-theirs a j;
-    only = λ q h e.
-        ⊎-elim
-        (λ had. ⊎-elim inl (λ w. inr (w .0, omega (arith, w .1), w .2, row-had a (w .0) q h (w .3))) (j .only q h had))
-        (λ got. inr (p, omega arith, u, row-had a p q h got))
-        (or-cases (bit old c q) (bit old p q) (sym (a .own q h) ∙ e));
   }
 
   pub joined-own : {p i : ℕ} {old new : List ℕ} → Widened c (λ q. eqb q i) old new → Joined up old c p (λ q. ⊥) → Joined up new c p (λ q. q ≡ i)
@@ -168,12 +139,12 @@ placed-none n up k e long b = record {
 
 module _ {n : ℕ} {up : ℕ → ℕ → Bool} {k : ℕ} {states order reach : List ℕ} (s : Placed n up k states order reach) where
   -- a kind that has a place, and the parents of such a kind, are not c
-  pub placed-row : {c : ℕ} {more : ℕ → Bool} {new : List ℕ} → state states c ≡ 1 → Widened c more reach new
-      → Placed n up k states order new
-  placed-row {c} {more} {new} way a = record {
+  pub placed-row : {c : ℕ} {new : List ℕ} → state states c ≡ 1 → length new ≡ 256
+      → ((d q : ℕ) → q < 128 → d ≢ c → bit new d q ≡ bit reach d q) → Placed n up k states order new
+  placed-row {c} {new} way long rows = record {
     long-states = s .long-states;
     long-order = s .long-order;
-    long-reach = a .long;
+    long-reach = long;
     small = s .small;
     left = s .left;
     kinds = s .kinds;
@@ -192,7 +163,7 @@ module _ {n : ℕ} {up : ℕ → ℕ → Bool} {k : ℕ} {states order reach : L
   }
     where
       other : (d q : ℕ) → q < 128 → state states d ≢ 1 → bit new d q ≡ bit reach d q
-      other d q h ne = a .other d q h (apart states c d (omega arith))
+      other d q h ne = rows d q h (apart states c d (omega arith))
 
   module _ {c : ℕ} (most : n ≤ 128) (lt : c < n) where
     within : c < length states
@@ -268,7 +239,7 @@ module _ {n : ℕ} {up : ℕ → ℕ → Bool} {k : ℕ} {states order reach : L
         last = room way
 
         base : Placed n up k states order new
-        base = placed-row way a
+        base = placed-row way (a .long) (a .other)
 
         free : n - 1 - k < length order
         free = omega (arith, s .long-order)

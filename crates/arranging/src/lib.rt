@@ -1,6 +1,5 @@
 // The kinds of a book put in order along their links, each before those above it, by going up the links. `arrange` says of
 // every kind where it stands and which places it reaches.
-use relation::join;
 use relation::mark;
 use relation::next;
 ghost use mathlib.Core.Path.{_≡_};
@@ -32,8 +31,8 @@ fn place(
     k + 1
 }
 
-// Goes up from kind c to each parent that is not visited yet, and so on; then c gets its place, if all its parents have
-// theirs. How many kinds have one.
+// Goes up from kind c to each parent that is not visited yet, and so on, and gathers the parents' rows in two words, which
+// are then row c; then c gets its place, if all its parents have theirs. How many kinds have one.
 fn climb(
     rows: &[u64; 256],
     n: usize,
@@ -51,15 +50,20 @@ fn climb(
     states[c] = 1;
     let mut k = from;
     let mut good = true;
+    let mut low = 0u64;
+    let mut high = 0u64;
     let mut parent = next(rows, c, 0);
     while parent < n {
         if states[parent] == 0 {
             k = climb(rows, n, parent, k, states, order, reach);
         }
         good = good & (states[parent] == 2);
-        join(reach, c, parent);
+        low = low | reach[2 * parent];
+        high = high | reach[2 * parent + 1];
         parent = next(rows, c, parent + 1);
     }
+    reach[2 * c] = low;
+    reach[2 * c + 1] = high;
     if good {
         place(n, c, k, states, order, reach)
     } else {

@@ -1,6 +1,7 @@
 -- What the kinds left decide, by the first of the places and whether its row covers them all.
 --     deciding-none, deciding-some     `deciding` as the code goes: there is no first place, and there is one
 --     first-held, deciding-fits        at the first place there is a kind; the entry of what is decided has 16 bits
+--     words-common, words-held         two words that have the common places as bits; their places are those of kinds
 --     arranged-acyclic       where the kinds are arranged, no kind is above itself
 --     reach-upto, place-in   row c of reach has the place of a kind just where that is c or above it; every place that it has is one below n
 --     held                   the places that a row of reach has are those of kinds
@@ -8,12 +9,13 @@
 -- Assumes nothing.
 use mathlib.Core.Path.{_≡_, refl, sym, _∙_, ap, ap₂, subst}
 use mathlib.Core.Logic.{_≢_, _⊎_, inl, inr, ⊎-elim, _↔_, by-cases}
-use mathlib.Core.Bool.{Bool, true, false, not, true≢false, and-eq-true-iff, or-true, not-eq-not}
-use mathlib.Core.List.{List}
-use Prim.Native.Nat.{ℕ, _<_, _≤_}
+use mathlib.Core.Bool.{Bool, true, false, _&&_, not, true≢false, and-eq-true-iff, or-true, not-eq-not}
+use mathlib.Core.List.{List, [], _∷_}
+use Prim.Native.Nat.{ℕ, _+_, _*_, _<_, _≤_}
 use native.Mathlib.Decide.{decLt}
 use native.Mathlib.Omega.{arith}
 use borrow.Author.Tests.{eqb-true, eq-eqb, lt-ltb, le-ltb, ltb-true, ltb-false, not-true}
+use lib.Bits.{bitAnd}
 use lib.Dec.{eqb, ltb}
 use lib.ListN.{getD}
 use Rattle.inheritance.specs.declared.Lookup.{Lookup}
@@ -27,13 +29,18 @@ use Rattle.inheritance.proofs.NearLaws.{Near, near-none, near-one, near-two}
 use Rattle.arranging.specs.Arranged.{Arranged}
 use Rattle.relation.specs.Bit.{bit}
 use Rattle.relation.specs.First.{First}
+use Rattle.relation.proofs.BitLaws.{on-and}
 use Rattle.tables.specs.Entry.{entryOf}
 use Rattle.tables.specs.Tables.{ownOf}
-use Rattle.deciding.specs.Deciding.{Held, common, outside, covered, first-below, decision, deciding}
+use Rattle.deciding.specs.Deciding.{Held, Words, common, outside, covered, first-below, decision, deciding}
 use Rattle.deciding.specs.Ruling.{Ruled}
-use Rattle.deciding.proofs.Places.{below-first, first-is}
+use Rattle.deciding.proofs.Places.{below-first, first-is, two-words}
 
 -- ---- as the code goes
+
+-- each place of f is that of a kind, and i is the first
+pub first-held : (order : List ℕ) (f : ℕ → Bool) {i : ℕ} → First f 0 128 i → ((p : ℕ) → p < 128 → f p ≡ true → getD order p 0 < 128) → i ≢ 128 → getD order i 0 < 128
+first-held order f {i} first holds ne = let l : i < 128 = omega (arith, first .high) in holds i l (first .found l)
 
 module _ (order reach ruled : List ℕ) (c j : ℕ) where
   -- i is the first common place
@@ -55,11 +62,6 @@ module _ (order reach ruled : List ℕ) (c j : ℕ) where
         cases : Bool → Bool → Lookup
         cases t s = elim t [ true ↦ elim s [ true ↦ Rule (kind (getD order i 0)) | false ↦ Dispute (kind c) ] | false ↦ None ]
 
-    pub first-held : Held order reach c → i ≢ 128 → getD order i 0 < 128
-    first-held holds ne =
-        let l : i < 128 = omega (arith, first .high) in
-        holds i l (and-eq-true-iff (bit reach c i) (bit ruled j i) .0 (first .found l) .0)
-
   pub deciding-fits : c < 128 → Held order reach c → entryOf (deciding order reach ruled c j) < 65536
   unfolding deciding
   deciding-fits h holds = by-place (ltb i 128) refl (covered reach ruled c j (getD order i 0))
@@ -71,7 +73,18 @@ module _ (order reach ruled : List ℕ) (c j : ℕ) where
           → entryOf (elim b [ true ↦ elim t [ true ↦ Rule (kind (getD order i 0)) | false ↦ Dispute (kind c) ] | false ↦ None ]) < 65536
       by-place false e t = omega arith
       by-place true e false = omega arith
-      by-place true e true = let l = ltb-true i 128 e in omega (arith, first-held (below-first (common reach ruled c j) 128) holds (λ q. omega arith))
+      by-place true e true =
+          let l = ltb-true i 128 e in
+          omega (arith, first-held order _ (below-first (common reach ruled c j) 128) (λ p h q. holds p h (and-eq-true-iff (bit reach c p) _ .0 q .0)) (λ q. omega arith))
+
+module _ (reach ruled : List ℕ) (c j : ℕ) where
+  -- row c of reach and row j of ruled, put together word by word
+  pub words-common : Words (bitAnd (getD reach (2 * c) 0) (getD ruled (2 * j) 0)) (bitAnd (getD reach (2 * c + 1) 0) (getD ruled (2 * j + 1) 0)) reach ruled c j
+  words-common i h = two-words bitAnd _&&_ on-and reach c ruled j i h
+
+  pub words-held : (order : List ℕ) → Held order reach c
+      → Held order (bitAnd (getD reach (2 * c) 0) (getD ruled (2 * j) 0) ∷ bitAnd (getD reach (2 * c + 1) 0) (getD ruled (2 * j + 1) 0) ∷ []) 0
+  words-held order holds i h e = holds i h (and-eq-true-iff (bit reach c i) _ .0 (sym (words-common i h) ∙ e) .0)
 
 -- ---- what it means
 

@@ -3,6 +3,7 @@
 --     passed-none, passed-store    no mark is passed; one more is passed by a store
 --     row-passed                   the marks up to hi are passed
 --     changed-none, changed-store  `Changed` while a loop goes through the marks from lo: none is changed; one more is, by a store
+--     changed-kept                 .. one more is as it should be, without a store
 --     passed-kept, passed-changed  a group of eight marks is passed: nothing changes there; it is changed as a whole
 --     row-wider                    the marks that are passed have lo to below hi among them
 --     row-same                     a row under another description of its marks
@@ -58,6 +59,16 @@ changed-store {lo} {j} {g} {old} {new} v s low h e =
       before = λ i a. getD-set-other new j i v 0 (omega arith) ∙ s .before i a;
       after = t .left;
     }
+
+pub changed-kept : {lo j : ℕ} {g : ℕ → ℕ → ℕ} {old new : List ℕ} → Changed lo j g old new → getD new j 0 ≡ g j (getD new j 0) → Changed lo (j + 1) g old new
+changed-kept {lo} {j} {g} {old} {new} s e = record {
+  long = s .long;
+  at = λ i a b. ⊎-elim
+      (λ (same : i ≡ j). subst (λ (k : ℕ). getD new k 0 ≡ g k (getD old k 0)) (sym same) (e ∙ ap (g j) (s .after j (omega arith))))
+      (λ (less : i < j). s .at i a less) (eq-or-lt-of-le (omega arith));
+  before = s .before;
+  after = λ i a. s .after i (omega arith);
+}
 
 -- group q is the eight marks from 8 * q on
 module _ (q : ℕ) {lo : ℕ} {g : ℕ → ℕ → ℕ} {old : List ℕ} where

@@ -2,12 +2,13 @@
 --     Prepared            the order, the places of the kinds at or above each, and those of the rule kinds, for a book
 --     Held                the places that row c of reach has are those of kinds
 --     common, outside     the places in row c of reach that row j of ruled has too, and those of them that row o of reach has not
+--     Words               the bits of two words, the low one first, are the common places
 --     deciding            the first common place is that of a kind left; it is left alone if row o of reach has them all, where o is that kind
 --     apart               an entry of kind c, where v is what is decided if the parents differ
 -- Assumes nothing.
 use mathlib.Core.Path.{_≡_}
 use mathlib.Core.Bool.{Bool, true, false, _&&_, not}
-use mathlib.Core.List.{List}
+use mathlib.Core.List.{List, [], _∷_}
 use Prim.Native.Nat.{ℕ, zero, suc, _+_, _<_}
 use lib.Dec.{eqb, ltb}
 use lib.ListN.{getD}
@@ -33,6 +34,9 @@ common reach ruled c j i = bit reach c i && bit ruled j i
 
 abbrev pub outside : (reach ruled : List ℕ) → ℕ → ℕ → ℕ → ℕ → Bool
 outside reach ruled c j o i = common reach ruled c j i && not (bit reach o i)
+
+abbrev pub Words : (near far : ℕ) (reach ruled : List ℕ) → ℕ → ℕ → Type 0
+Words near far reach ruled c j = (i : ℕ) → i < 128 → bit (near ∷ far ∷ []) 0 i ≡ common reach ruled c j i
 
 -- row o of reach has every common place
 unfoldable pub covered : (reach ruled : List ℕ) → ℕ → ℕ → ℕ → Bool

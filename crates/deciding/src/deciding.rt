@@ -5,14 +5,14 @@ use inheritance::Lookup;
 use tables::encode;
 ghost use mathlib.Core.Path.{_≡_};
 ghost use mathlib.Core.Bool.{_||_, not};
-ghost use mathlib.Core.List.{[], _∷_};
-ghost use Prim.Native.Nat.{_+_, _<_, _≤_};
+ghost use mathlib.Core.List.{List, [], _∷_};
+ghost use Prim.Native.Nat.{ℕ, _+_, _<_, _≤_};
 ghost use lib.Dec.{eqb, ltb};
 ghost use lib.ListN.{getD, length};
 ghost use Rattle.relation.specs.Bit.{bit};
 ghost use Rattle.relation.specs.First.{First};
 ghost use Rattle.tables.specs.Tables.{all-below};
-ghost use Rattle.deciding.specs.Deciding.{Held, common, covered, deciding, apart};
+ghost use Rattle.deciding.specs.Deciding.{Held, Words, covered, deciding, apart};
 ghost use Rattle.deciding.specs.Row.{Row, Changed};
 
 // The first bit of two words, the low one first; 128 where there is none.
@@ -27,64 +27,33 @@ fn first_of(low: u64, high: u64) -> usize
     }
 }
 
-// The first place that is both in row c of reach and in row j of ruled; 128 where there is none.
-fn first_common(reach: &[u64; 256], ruled: &[u64; 256], c: usize, j: usize) -> usize
-    requires { ⌜ (c < 128) × (j < 128) ⌝ }
-    ensures { λ r. ⌜ First (common (now (reach .entry)) (now (ruled .entry)) c j) 0 128 r ⌝ }
+// Whether row o of reach has every place that is a bit of the two words, the low one first.
+fn covers(reach: &[u64; 256], o: usize, near: u64, far: u64) -> bool
+    requires { ⌜ o < 128 ⌝ }
+    ensures { λ r. ⌜ ((ruled : List ℕ) (c j : ℕ) → Words near far (now (reach .entry)) ruled c j → r ≡ covered (now (reach .entry)) ruled c j o) ⌝ }
 {
-    let a = 2 * c;
-    let b = 2 * j;
-    first_of(reach[a] & ruled[b], reach[a + 1] & ruled[b + 1])
-}
-
-// Whether every place that is both in row c of reach and in row j of ruled is in row o of reach.
-fn covers(reach: &[u64; 256], ruled: &[u64; 256], c: usize, j: usize, o: usize) -> bool
-    requires { ⌜ (c < 128) × (j < 128) × (o < 128) ⌝ }
-    ensures { λ r. ⌜ r ≡ covered (now (reach .entry)) (now (ruled .entry)) c j o ⌝ }
-{
-    let a = 2 * c;
-    let b = 2 * j;
     let low = reach[2 * o];
     let high = reach[2 * o + 1];
-    let more_low = (reach[a] & ruled[b] | low) ^ low;
-    let more_high = (reach[a + 1] & ruled[b + 1] | high) ^ high;
+    let more_low = (near | low) ^ low;
+    let more_high = (far | high) ^ high;
     first_of(more_low, more_high) == 128
 }
 
-// The lookup of kind c for mark j where its parents differ. The first rule kind at or above c is left. It is left alone if
-// all the others are above it.
-fn decide(order: &[u8; 128], reach: &[u64; 256], ruled: &[u64; 256], c: usize, j: usize) -> Lookup
-    requires { ⌜ (c < 128) × (j < 128) × (Held (now order) (now reach) c) ⌝ }
-    ensures { λ r. ⌜ r ≡ deciding (now (order .entry)) (now (reach .entry)) (now (ruled .entry)) c j ⌝ }
+// The lookup of kind c where its parents differ. The bits of the two words, the low one first, are the places of the rule
+// kinds at or above c. The first of them is left. It is left alone if all the others are above it.
+fn decide(order: &[u8; 128], reach: &[u64; 256], c: usize, near: u64, far: u64) -> Lookup
+    requires { ⌜ (c < 128) × (Held (now order) (near ∷ far ∷ []) 0) ⌝ }
+    ensures { λ r. ⌜ ((ruled : List ℕ) (j : ℕ) → Words near far (now (reach .entry)) ruled c j → r ≡ deciding (now (order .entry)) (now (reach .entry)) ruled c j) ⌝ }
 {
-    let i = first_common(reach, ruled, c, j);
+    let i = first_of(near, far);
     if i == 128 {
         return Lookup::None;
     }
-    let o = order[i] as u16;
-    if covers(reach, ruled, c, j, o as usize) {
-        Lookup::Rule(Kind(o))
+    let o = order[i] as usize;
+    if covers(reach, o, near, far) {
+        Lookup::Rule(Kind(o as u16))
     } else {
         Lookup::Dispute(Kind(c as u16))
-    }
-}
-
-// The entry e of kind c for mark j: where it says that the parents differ, the kinds left decide.
-fn narrow(
-    order: &[u8; 128],
-    reach: &[u64; 256],
-    ruled: &[u64; 256],
-    c: usize,
-    j: usize,
-    e: u16,
-) -> u16
-    requires { ⌜ (c < 128) × (j < 128) × (Held (now order) (now reach) c) ⌝ }
-    ensures { λ r. ⌜ r ≡ apart c e (deciding (now (order .entry)) (now (reach .entry)) (now (ruled .entry)) c j) ⌝ }
-{
-    if e == 257 + c as u16 {
-        encode(decide(order, reach, ruled, c, j))
-    } else {
-        e
     }
 }
 
@@ -113,8 +82,15 @@ fn decide_eight(
     requires { ⌜ (c < 128) × (from + 8 ≤ 64) × (length (now out) ≡ 64) × (Held (now order) (now reach) c) ⌝ }
     ensures { λ _. ⌜ Changed from (from + 8) (λ j e. apart c e (deciding (now (order .entry)) (now (reach .entry)) (now (ruled .entry)) c j)) (now (out .entry)) (now (out .exit)) ⌝ }
 {
+    let low = reach[2 * c];
+    let high = reach[2 * c + 1];
+    let apart = 257 + c as u16;
     for j in from..from + 8 {
-        out[j] = narrow(order, reach, ruled, c, j, out[j]);
+        if out[j] == apart {
+            let near = low & ruled[2 * j];
+            let far = high & ruled[2 * j + 1];
+            out[j] = encode(decide(order, reach, c, near, far));
+        }
     }
 }
 

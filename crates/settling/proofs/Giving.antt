@@ -2,6 +2,8 @@
 --     row-first, row-merge              the first parent is taken as it is; one more is merged in
 --     row-next, row-empty               up to the next parent nothing more is given; there is none
 --     row-kind                          a row that is worked out, compared with the entries of its kind
+--     given-one, given-two              what a kind with one parent, and with two, is given
+--     row-owned                         the own rules win
 --     row-decided                       the own rules win, and where the parents differ the kinds left decide: the row is worked out
 -- Assumes nothing.
 use mathlib.Core.Path.{_≡_, refl, sym, _∙_, ap}
@@ -54,10 +56,11 @@ module _ (m : ℕ) (up : ℕ → ℕ → Bool) (entries : List ℕ) (c : ℕ) wh
   row-none k e h = record { long = length-replicate k 0 ∙ e; at = λ j a b. getD-replicate k j 0 0 (omega arith) }
 
   -- p is the next parent from k on, if there is one below n
+  given-next : {k n p : ℕ} → First (up c) k 128 p → k ≤ n → (j : ℕ) → given m up entries c (min p n) j ≡ given m up entries c k j
+  given-next s h j = first-skips (λ k. given m up entries c k j) (up c) (λ k u. given-skip k j u) s h
+
   pub row-next : {k n p lo hi : ℕ} {out : List ℕ} → First (up c) k 128 p → k ≤ n → Row lo hi (given m up entries c k) out → Row lo hi (given m up entries c (min p n)) out
-  row-next {n = n} {p = p} s h r =
-      row-same (given m up entries c (min p n))
-      (λ j a b. sym (first-skips (λ k. given m up entries c k j) (up c) (λ k u. given-skip k j u) s h)) r
+  row-next {n = n} {p = p} s h r = row-same (given m up entries c (min p n)) (λ j a b. sym (given-next s h j)) r
 
   pub row-merge : (k : ℕ) {lo hi : ℕ} {out new : List ℕ} → up c k ≡ true → Row lo hi (given m up entries c k) out
       → Row lo hi (λ j. merged c (getD out j 0) (getD entries (k * m + j) 0)) new → Row lo hi (given m up entries c (k + 1)) new
@@ -73,14 +76,32 @@ module _ (m : ℕ) (up : ℕ → ℕ → Bool) (entries : List ℕ) (c : ℕ) wh
       rw all at r
 
   -- p is the first parent
+  given-first : {n p : ℕ} → First (up c) 0 128 p → p < n → up c p ≡ true → (j : ℕ) → getD entries (p * m + j) 0 ≡ given m up entries c (p + 1) j
+  given-first {n} {p} s h u j =
+      let at : p ≡ min p n = omega arith in
+      let none = ap (λ (k : ℕ). given m up entries c k j) at ∙ given-next s (omega arith) j ∙ given-zero j in
+      sym (merge-first c (getD entries (p * m + j) 0)) ∙ ap (λ (e : ℕ). merged c e (getD entries (p * m + j) 0)) (sym none) ∙ given-more p j u
+
   pub row-first : {n p lo hi : ℕ} {out : List ℕ} → First (up c) 0 128 p → p < n → up c p ≡ true
       → Row lo hi (λ j. getD entries (p * m + j) 0) out → Row lo hi (given m up entries c (p + 1)) out
-  row-first {n} {p} s h u r =
-      let at : p ≡ min p n = omega arith in
-      row-same (given m up entries c (p + 1))
-      (λ j a b.
-      let none = ap (λ (k : ℕ). given m up entries c k j) at ∙ first-skips (λ k. given m up entries c k j) (up c) (λ k off. given-skip k j off) s (omega arith) ∙ given-zero j in
-      sym (merge-first c (getD entries (p * m + j) 0)) ∙ ap (λ (e : ℕ). merged c e (getD entries (p * m + j) 0)) (sym none) ∙ given-more p j u) r
+  row-first {p = p} s h u r = row-same (given m up entries c (p + 1)) (λ j a b. given-first s h u j) r
+
+  -- p is the only parent
+  pub given-one : {n p q : ℕ} → First (up c) 0 128 p → p < n → up c p ≡ true → First (up c) (p + 1) 128 q → n ≤ q
+      → (j : ℕ) → getD entries (p * m + j) 0 ≡ given m up entries c n j
+  given-one {n} {p} {q} s h u t l j =
+      let all : min q n ≡ n = omega arith in
+      given-first s h u j ∙ sym (given-next t (omega arith) j) ∙ ap (λ (k : ℕ). given m up entries c k j) all
+
+  -- p and q are the only ones
+  pub given-two : {n p q r : ℕ} → First (up c) 0 128 p → p < n → up c p ≡ true → First (up c) (p + 1) 128 q → q < n → up c q ≡ true → First (up c) (q + 1) 128 r → n ≤ r
+      → (j : ℕ) → merged c (getD entries (p * m + j) 0) (getD entries (q * m + j) 0) ≡ given m up entries c n j
+  given-two {n} {p} {q} {r} s h u t h′ u′ v l j =
+      let here : min q n ≡ q = omega arith in
+      let all : min r n ≡ n = omega arith in
+      ap (λ (e : ℕ). merged c e (getD entries (q * m + j) 0))
+      (given-first s h u j ∙ sym (given-next t (omega arith) j) ∙ ap (λ (k : ℕ). given m up entries c k j) here)
+      ∙ given-more q j u′ ∙ sym (given-next v (omega arith) j) ∙ ap (λ (k : ℕ). given m up entries c k j) all
 
   module _ (n : ℕ) (rules : List ℕ) where
     abbrev lefts : ℕ → ℕ → Bool
@@ -99,17 +120,21 @@ module _ (m : ℕ) (up : ℕ → ℕ → Bool) (entries : List ℕ) (c : ℕ) wh
         go false = refl
 
     -- `decisions j` is what the kinds left decide for mark j
-    pub row-decided : (decisions : ℕ → Lookup) {lo hi : ℕ} {out mid new : List ℕ} → c < 128
+    pub row-decided : (decisions : ℕ → Lookup) {lo hi : ℕ} {mid new : List ℕ} → c < 128
         → ((j : ℕ) → j < hi → decisions j ≡ decided (passing (left n up (ownOf m rules j) c) n) (Dispute (kind c)))
-        → Row lo hi (given m up entries c n) out → Row lo hi (λ j. ruled c (getD rules (c * m + j) 0) (getD out j 0)) mid
+        → Row lo hi (λ j. ruled c (getD rules (c * m + j) 0) (given m up entries c n j)) mid
         → Row lo hi (λ j. apart c (getD mid j 0) (decisions j)) new
         → Row lo hi (stepped n m up rules entries c) new
-    row-decided decisions h right r o s =
+    row-decided decisions h right o s =
         row-same (stepped n m up rules entries c)
         (λ j a b. let rule = getD rules (c * m + j) 0 in
-        ap (λ (e : ℕ). apart c e (decisions j)) (o .at j a b ∙ ap (ruled c rule) (r .at j a b))
+        ap (λ (e : ℕ). apart c e (decisions j)) (o .at j a b)
         ∙ apart-ruled c rule (given m up entries c n j) (decisions j) h
         ∙ ap (ruled c rule) (apart-narrows n (lefts j) c (given m up entries c n j) (decisions j) (right j b)) ∙ given-own j) s
+
+-- the own rules win in a row that has what the parents give
+pub row-owned : {lo hi : ℕ} {f : ℕ → ℕ} {out mid : List ℕ} (c : ℕ) (rule : ℕ → ℕ) → Row lo hi f out → Row lo hi (λ j. ruled c (rule j) (getD out j 0)) mid → Row lo hi (λ j. ruled c (rule j) (f j)) mid
+row-owned c rule r o = row-same _ (λ j a b. ap (ruled c (rule j)) (r .at j a b)) o
 
 pub row-kind : (n m : ℕ) (up : ℕ → ℕ → Bool) (rules entries : List ℕ) (c : ℕ) {out : List ℕ} → Row 0 m (stepped n m up rules entries c) out
     → all-below (λ j. eqb (getD entries (c * m + j) 0) (getD out j 0)) m ≡ kind-right n m up rules entries c

@@ -1,4 +1,5 @@
 -- What the proofs of several functions use.
+pub mod CheckLaws
 pub mod Editing
 pub mod Giving
 pub mod MergeLaws

@@ -30,7 +30,7 @@ pub merge-first : (c b : ℕ) → merged c 0 b ≡ b
 unfolding merged lookupOf
 merge-first c b = ap entryOf (join-none c (lookupOf b)) ∙ entry-lookup b
 
-merge-same : (c a b : ℕ) → a ≡ b → merged c a b ≡ b
+pub merge-same : (c a b : ℕ) → a ≡ b → merged c a b ≡ b
 unfolding merged
 merge-same c a b same = ap (λ (x : ℕ). entryOf (join c (lookupOf x) (lookupOf b))) same ∙ ap entryOf (join-same c (lookupOf b)) ∙ entry-lookup b
 

@@ -4,19 +4,22 @@
 --     narrowing       what they give, where the kinds left decide if they differ
 --     agreed          no entry of a row says that the parents differ
 --     ruled           the entry of kind c, where its own rule wins over what its parents give
+--     plain           the entries of kind c for the marks below k are those that its own rules and f give, and none says that the parents differ
+--     Checked         the row is worked out so, and r says whether it is plain
 --     Sized, Marks    the sizes that the code has room for, with the lengths of the tables; a range of marks
 -- Assumes nothing.
 use mathlib.Core.Path.{_≡_}
-use mathlib.Core.Bool.{Bool, true, false, _||_, not}
+use mathlib.Core.Bool.{Bool, true, false, _&&_, _||_, not}
 use mathlib.Core.List.{List}
 use Prim.Native.Nat.{ℕ, _+_, _*_, _≤_}
 use lib.Dec.{eqb, ltb}
-use lib.ListN.{length}
+use lib.ListN.{getD, length}
 use Rattle.inheritance.specs.Lookup.{join, meet, passing}
 use Rattle.inheritance.specs.Step.{narrowed}
 use Rattle.tables.specs.Entry.{entryOf, lookupOf}
 use Rattle.tables.specs.Step.{read}
 use Rattle.tables.specs.Tables.{all-below}
+use Rattle.deciding.specs.Row.{Row}
 
 unfoldable pub merged : ℕ → ℕ → ℕ → ℕ
 merged c a b = entryOf (join c (lookupOf a) (lookupOf b))
@@ -35,6 +38,15 @@ agreed c lo hi f = all-below (λ j. ltb j lo || not (eqb (f j) (257 + c))) hi
 
 unfoldable pub ruled : ℕ → ℕ → ℕ → ℕ
 ruled c rule e = elim (eqb rule 0) [ true ↦ e | false ↦ c + 1 ]
+
+-- the entries of kind c are those that its own rules and f give, and none of them says that the parents differ
+unfoldable pub plain : (m c : ℕ) → (rules entries : List ℕ) → (ℕ → ℕ) → ℕ → Bool
+plain m c rules entries f k =
+    all-below (λ j. eqb (ruled c (getD rules (c * m + j) 0) (f j)) (getD entries (c * m + j) 0) && not (eqb (ruled c (getD rules (c * m + j) 0) (f j)) (257 + c))) k
+
+pub record Checked (m c : ℕ) (rules entries : List ℕ) (f : ℕ → ℕ) (out : List ℕ) (r : Bool) : Type 0 where
+  pub row : Row 0 m (λ j. ruled c (getD rules (c * m + j) 0) (f j)) out
+  pub answer : r ≡ plain m c rules entries f m
 
 pub record Sized (n m : ℕ) (rules entries : List ℕ) : Type 0 where
   pub kinds : n ≤ 128

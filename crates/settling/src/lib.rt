@@ -13,12 +13,12 @@ ghost use Prim.Native.Nat.{_+_, _*_, _<_, _≤_};
 ghost use lib.Dec.{eqb};
 ghost use lib.ListN.{getD, length, set};
 ghost use Rattle.relation.specs.Bit.{bit, Blank};
-ghost use Rattle.tables.specs.Step.{stepped, right};
+ghost use Rattle.tables.specs.Step.{stepped, kind-right, right};
 ghost use Rattle.tables.specs.Tables.{all-below, byte-right, differ};
 ghost use Rattle.deciding.specs.Deciding.{Prepared};
 ghost use Rattle.settling.specs.Examined.{LinksExamined, Examined};
 ghost use Rattle.deciding.specs.Row.{Row};
-ghost use Rattle.settling.specs.Merged.{merged, ruled, given, agreed, Sized, Marks};
+ghost use Rattle.settling.specs.Merged.{merged, ruled, given, agreed, Checked, Sized, Marks};
 ghost use Rattle.settling.specs.Settled.{Written, Awaiting, Settled};
 
 // One more parent's entry b, folded into a, what the parents so far give kind c: another rule than that of b, or another
@@ -159,6 +159,106 @@ fn row_right(m: usize, entries: &[u16], c: usize, out: &[u16; 64]) -> bool
     same
 }
 
+// The entries that kind c would have by its own rules and two rows that its parents give, x from i on and y from k on.
+// Whether they are its entries, and none says that the parents differ.
+fn check(
+    c: usize,
+    m: usize,
+    rules: &[u16],
+    x: &[u16],
+    i: usize,
+    y: &[u16],
+    k: usize,
+    entries: &[u16],
+    out: &mut [u16; 64],
+) -> bool
+    requires { ⌜ (c < 128) × (m ≤ 64) × (c * m + m ≤ length (now rules)) × (c * m + m ≤ length (now entries)) ⌝ }
+    requires { ⌜ (i + m ≤ length (now x)) × (k + m ≤ length (now y)) × (length (now out) ≡ 64) ⌝ }
+    ensures { λ r. ⌜ Checked m c (now (rules .entry)) (now (entries .entry)) (λ j. merged c (getD (now (x .entry)) (i + j) 0) (getD (now (y .entry)) (k + j) 0)) (now (out .exit)) r ⌝ }
+{
+    let kind = c as u16;
+    let mut all = true;
+    for j in 0..m {
+        let e = own(kind, rules[c * m + j], merge(kind, x[i + j], y[k + j]));
+        all = all & ((e == entries[c * m + j]) & (e != 257 + kind));
+        out[j] = e;
+    }
+    all
+}
+
+// The same for what all the parents of kind c give it. Of one parent or two the rows are taken where they stand, which most
+// kinds have; the row of one parent, or of all merged, is given twice, since a row merged with itself is that row.
+fn check_row(
+    rows: &[u64; 256],
+    n: usize,
+    m: usize,
+    rules: &[u16],
+    entries: &[u16],
+    c: usize,
+    out: &mut [u16; 64],
+) -> bool
+    requires { ⌜ (Sized n m (now rules) (now entries)) × (c < n) × (length (now out) ≡ 64) ⌝ }
+    ensures { λ r. ⌜ Checked m c (now (rules .entry)) (now (entries .entry)) (given m (bit (now (rows .entry))) (now (entries .entry)) c n) (now (out .exit)) r ⌝ }
+{
+    let first = next(rows, c, 0);
+    if first < n {
+        let second = next(rows, c, first + 1);
+        if second >= n {
+            return check(
+                c,
+                m,
+                rules,
+                entries,
+                first * m,
+                entries,
+                first * m,
+                entries,
+                out,
+            );
+        }
+        if next(rows, c, second + 1) >= n {
+            return check(
+                c,
+                m,
+                rules,
+                entries,
+                first * m,
+                entries,
+                second * m,
+                entries,
+                out,
+            );
+        }
+    }
+    let mut all = [0u16; 64];
+    merge_parents(rows, n, m, 0, m, entries, c, &mut all);
+    check(c, m, rules, &all, 0, &all, 0, entries, out)
+}
+
+// Whether the entries of kind c are what its own rules, its parents' entries and the kinds left give.
+fn kind_right(
+    rows: &[u64; 256],
+    order: &[u8; 128],
+    reach: &[u64; 256],
+    ruled: &[u64; 256],
+    n: usize,
+    m: usize,
+    rules: &[u16],
+    entries: &[u16],
+    c: usize,
+    out: &mut [u16; 64],
+) -> bool
+    requires { ⌜ (Sized n m (now rules) (now entries)) × (Prepared n m (now rows) (now rules) (now order) (now reach) (now ruled)) ⌝ }
+    requires { ⌜ (c < n) × (length (now out) ≡ 64) ⌝ }
+    ensures { λ r. ⌜ (r ≡ kind-right n m (bit (now (rows .entry))) (now (rules .entry)) (now (entries .entry)) c) × (length (now (out .exit)) ≡ 64) ⌝ }
+{
+    if check_row(rows, n, m, rules, entries, c, out) {
+        return true;
+    }
+    decide_row(order, reach, ruled, 0, m, c, out);
+    row_right(m, entries, c, out)
+}
+
 // Whether every entry is what its kind's own rules, its parents' entries and the kinds left give.
 pub fn entries_right(
     rows: &[u64; 256],
@@ -176,21 +276,7 @@ pub fn entries_right(
     let mut out = [0u16; 64];
     let mut all = true;
     for c in 0..n {
-        inherit_row(
-            rows,
-            order,
-            reach,
-            ruled,
-            n,
-            m,
-            0,
-            m,
-            rules,
-            entries,
-            c,
-            &mut out,
-        );
-        all = all & row_right(m, entries, c, &out);
+        all = all & kind_right(rows, order, reach, ruled, n, m, rules, entries, c, &mut out);
     }
     all
 }

@@ -3,7 +3,7 @@
 use mathlib.Core.Path.{_≡_, subst}
 use mathlib.Core.Bool.{true}
 use mathlib.Core.Logic.{⊎-elim, _≢_}
-use Prim.Native.Nat.{ℕ, _-_, _<_, _≤_, min}
+use Prim.Native.Nat.{ℕ, _+_, _-_, _*_, _<_, _≤_, min}
 use native.Mathlib.Omega.{arith}
 use borrow.Fn.Kinds.{In}
 use borrow.Fn.PlainCycle.{Measures, is, falls, and}
@@ -12,8 +12,8 @@ use Rattle.inheritance.specs.Above.{count}
 use Rattle.relation.specs.Bit.{bit}
 use Rattle.arranging.specs.Arranged.{unvisited, state}
 use Rattle.arranging.proofs.Placing.{widened, room}
+use Rattle.arranging.proofs.Gathering.{Written, written}
 use Rattle.arranging.proofs.Climbing.{Climbing, climbing-none, climbing-up, climbing-on, climbing-skip, climbing-at, on-way, marked, fewer, climbed-placed, climbed}
-use Rattle.relation.proofs.join.Reads as join
 use Rattle.relation.proofs.next.Reads as next
 use Rattle.arranging.proofs.place.Reads as place
 use Rattle.arranging.proofs.climb.Reads as climb
@@ -27,11 +27,11 @@ abbrev μ : Measures 4 kinds.ps ℕ
 
 -- p is a parent of c if it is a kind
 abbrev Inv-loop : lts.InvT-loop
-Inv-loop rows n c from states₀ order₀ reach₀ k₀ good₀ p₀ states order reach k good p =
-    (p ≤ 128) × (p < 128 → bit rows c p ≡ true) × Climbing n (bit rows) c (min p n) k good states₀ states order reach₀ reach
+Inv-loop rows n c from states₀ order₀ reach₀ k₀ good₀ low₀ high₀ p₀ states order reach k good low high p =
+    (p ≤ 128) × (p < 128 → bit rows c p ≡ true) × Climbing n (bit rows) c (min p n) k good low high states₀ states order reach₀ reach
 
 abbrev μ-loop : lts.MeasureT-loop
-μ-loop rows n c from states₀ order₀ reach₀ k₀ good₀ p₀ states order reach k good p = n - p
+μ-loop rows n c from states₀ order₀ reach₀ k₀ good₀ low₀ high₀ p₀ states order reach k good low high p = n - p
 
 -- what `climb` is given at the measure t, and what the calls in it ask and ensure, its own below t
 abbrev given : ℕ → In 4 kinds.ps
@@ -43,8 +43,6 @@ calls t = (
   next.Learnt,
   and 4 kinds.ps (falls 4 kinds.ps _<_ μ t) climb.Pre,
   climb.Post,
-  join.Asked,
-  join.Learnt,
   place.Asked,
   place.Learnt,
 )
@@ -84,7 +82,7 @@ module _ (t : ℕ) where
   turned : (j : lts.Joined1 (calls t) (given t) climb.Post Inv-loop μ-loop)
       → let a = j .before .before .before in
       let start = a .before .before in
-      Climbing (start .args .n) (bit (start .args .rows .now)) (start .args .c) (a .loop .parent) (j .if1 .k) (a .loop .good)
+      Climbing (start .args .n) (bit (start .args .rows .now)) (start .args .c) (a .loop .parent) (j .if1 .k) (a .loop .good) (a .loop .low) (a .loop .high)
       (set (start .args .states .now) (start .args .c) 1) (j .if1 .states) (j .if1 .order) (start .args .reach .now) (j .if1 .reach)
       × (state (j .if1 .states) (a .loop .parent) ≢ 0)
   turned j =
@@ -100,12 +98,26 @@ module _ (t : ℕ) where
       (λ w. rw (w .1, w .2, w .3, w .4) (m, w .0 .left))
       (j .if1 .came)
 
-  join-requires : lts.Need-join-requires (calls t) (given t) climb.Post Inv-loop μ-loop
-  join-requires c κs =
-      let j = c .before .before in
-      let start = j .before .before .before .before .before in
-      let f = start .pre .1 .1 in
-      (turned j .0 .placed .long-reach, omega (arith, f .kind), omega arith)
+  mul-low : lts.Need-mul-low (calls t) (given t) climb.Post Inv-loop μ-loop
+  mul-low c = omega arith
+
+  mul-low-2 : lts.Need-mul-low-2 (calls t) (given t) climb.Post Inv-loop μ-loop
+  mul-low-2 c = omega arith
+
+  element-copy-out-low : lts.Need-element-copy-out-low (calls t) (given t) climb.Post Inv-loop μ-loop
+  element-copy-out-low c = omega arith
+
+  mul-high : lts.Need-mul-high (calls t) (given t) climb.Post Inv-loop μ-loop
+  mul-high c = omega arith
+
+  add-high : lts.Need-add-high (calls t) (given t) climb.Post Inv-loop μ-loop
+  add-high c = omega arith
+
+  mul-high-2 : lts.Need-mul-high-2 (calls t) (given t) climb.Post Inv-loop μ-loop
+  mul-high-2 c = omega arith
+
+  element-copy-out-high : lts.Need-element-copy-out-high (calls t) (given t) climb.Post Inv-loop μ-loop
+  element-copy-out-high c = omega arith
 
   add-next : lts.Need-add-next (calls t) (given t) climb.Post Inv-loop μ-loop
   add-next c = omega arith
@@ -128,8 +140,41 @@ module _ (t : ℕ) where
       let s = c .next2 .ensures in
       let (m, vis) = turned j in
       let way = marked most f p₀ m in
-      let on = climbing-on most (f .kind) way m (l .loop-test .taken) (l .before .loop .inv .1 (omega arith)) vis (widened _ _ (c .before .join .ensures)) in
+      let on = climbing-on most (f .kind) way m (l .loop-test .taken) (l .before .loop .inv .1 (omega arith)) vis in
       (s .high, s .found, climbing-skip most (f .kind) way on s)
+
+  mul-reach : lts.Need-mul-reach (calls t) (given t) climb.Post Inv-loop μ-loop
+  mul-reach c = let f = c .before .before .before .pre .1 .1 in omega (arith, f .kind)
+
+  mul-reach-2 : lts.Need-mul-reach-2 (calls t) (given t) climb.Post Inv-loop μ-loop
+  mul-reach-2 c = let f = c .before .before .before .pre .1 .1 in omega (arith, f .kind)
+
+  element-write-reach : lts.Need-element-write-reach (calls t) (given t) climb.Post Inv-loop μ-loop
+  element-write-reach c = let f = c .before .before .before .pre .1 .1 in omega (arith, f .kind)
+
+  mul-reach-3 : lts.Need-mul-reach-3 (calls t) (given t) climb.Post Inv-loop μ-loop
+  mul-reach-3 c = let f = c .before .before .before .pre .1 .1 in omega (arith, f .kind)
+
+  add-reach : lts.Need-add-reach (calls t) (given t) climb.Post Inv-loop μ-loop
+  add-reach c = let f = c .before .before .before .pre .1 .1 in omega (arith, f .kind)
+
+  mul-reach-4 : lts.Need-mul-reach-4 (calls t) (given t) climb.Post Inv-loop μ-loop
+  mul-reach-4 c = let f = c .before .before .before .pre .1 .1 in omega (arith, f .kind)
+
+  element-write-reach-2 : lts.Need-element-write-reach-2 (calls t) (given t) climb.Post Inv-loop μ-loop
+  element-write-reach-2 c = let f = c .before .before .before .pre .1 .1 in omega (arith, f .kind)
+
+  -- the words are stored
+  stored : (l : lts.After-loop (calls t) (given t) climb.Post Inv-loop μ-loop)
+      → let start = l .before .before .before in
+      let old = l .before .loop .reach in
+      let c = start .args .c in
+      let low = l .before .loop .low in
+      let high = l .before .loop .high in
+      Written c low high old (set (set old (2 * c) low) (2 * c + 1) high)
+  stored l =
+      let f = l .before .before .before .pre .1 .1 in
+      written _ _ _ _ (l .before .loop .inv .2 .placed .long-reach) (omega (arith, f .kind))
 
   place-requires : lts.Need-place-requires (calls t) (given t) climb.Post Inv-loop μ-loop
   place-requires c κs =
@@ -137,7 +182,7 @@ module _ (t : ℕ) where
       let start = l .before .before .before in
       let (most, f, p₀) = start .pre .1 in
       let m = l .before .loop .inv .2 in
-      (most, f .kind, room (m .placed) most (f .kind) (on-way most (f .kind) (marked most f p₀ m) m), m .placed .long-reach)
+      (most, f .kind, room (m .placed) most (f .kind) (on-way most (f .kind) (marked most f p₀ m) m), stored l .long)
 
   returns : lts.Need-returns (calls t) (given t) climb.Post Inv-loop μ-loop
   returns c =
@@ -148,7 +193,7 @@ module _ (t : ℕ) where
       let good = c .before .before .before .before .if2 .taken in
       let m = rw good at (rw end at (l .before .loop .inv .2)) in
       let (count, states, order, reach) = c .place .ensures in
-      rw (count, states, order) (climbed-placed most f p₀ m (widened _ _ reach))
+      rw (count, states, order) (climbed-placed most f p₀ m (stored l) (widened _ _ reach))
 
   returns-2 : lts.Need-returns-2 (calls t) (given t) climb.Post Inv-loop μ-loop
   returns-2 c =
@@ -157,9 +202,12 @@ module _ (t : ℕ) where
       let (most, f, p₀) = start .pre .1 in
       let end : min (l .before .loop .parent) (start .args .n) ≡ start .args .n = omega arith in
       let m = rw (c .if2 .left) at (rw end at (l .before .loop .inv .2)) in
-      (m .placed, climbed most f p₀ m)
+      climbed most f p₀ m (stored l)
 
 pub +climb-spec : {M : Type 1} → statement M
 +climb-spec = close μ λ t. lts.spec (calls t) (given t) climb.Post Inv-loop μ-loop
     (element-write-states t) (next-requires t) (loop-holds t) (element-copy-out-if1 t) (climb-requires t) (element-copy-out-good t)
-    (join-requires t) (add-next t) (next-requires-2 t) (loop-less t) (loop-again t) (place-requires t) (returns t) (returns-2 t)
+    (mul-low t) (mul-low-2 t) (element-copy-out-low t) (mul-high t) (add-high t) (mul-high-2 t) (element-copy-out-high t)
+    (add-next t) (next-requires-2 t) (loop-less t) (loop-again t)
+    (mul-reach t) (mul-reach-2 t) (element-write-reach t) (mul-reach-3 t) (add-reach t) (mul-reach-4 t) (element-write-reach-2 t)
+    (place-requires t) (returns t) (returns-2 t)

@@ -7,8 +7,6 @@ use Rattle.tables.specs.Step.{right, kind-right}
 use Rattle.tables.specs.Tables.{all-below}
 use Rattle.tables.proofs.TableLaws.{below-suc}
 use Rattle.relation.specs.Bit.{bit}
-use Rattle.deciding.proofs.Rows.{row-in}
-use Rattle.settling.proofs.Giving.{row-kind}
 use Rattle.settling.proofs.entries_right.Statement.{statement}
 use Rattle.settling.proofs.entries_right.Tie as tie
 
@@ -22,15 +20,8 @@ abbrev μ-loop : tie.MeasureT-loop
 loop-holds : tie.Need-loop-holds Inv-loop μ-loop
 loop-holds c = (omega arith, refl, unfold all-below in refl)
 
-inherit-row-requires : tie.Need-inherit-row-requires Inv-loop μ-loop
-inherit-row-requires c κs =
-    let s = c .before .before .before .before .before in
-    (s .pre, (record { most = s .pre .0 .marks; low = omega arith; high = omega arith }, omega arith, c .before .before .loop .inv .1))
-
-row-right-requires : tie.Need-row-right-requires Inv-loop μ-loop
-row-right-requires c κs =
-    let s = c .before .before .before .before .before .before .before in
-    (s .pre .0 .marks, row-in _ _ _ (s .pre .0 .entries-size) (omega arith))
+kind-right-requires : tie.Need-kind-right-requires Inv-loop μ-loop
+kind-right-requires c κs = (c .before .before .before .before .before .pre, (omega arith, c .before .before .loop .inv .1))
 
 add-c : tie.Need-add-c Inv-loop μ-loop
 add-c c = omega arith
@@ -39,9 +30,7 @@ loop-less : tie.Need-loop-less Inv-loop μ-loop
 loop-less c = omega arith
 
 loop-again : tie.Need-loop-again Inv-loop μ-loop
-loop-again c =
-    let l = c .before .before .before .before .before .loop in
-    (omega arith, c .before .before .inherit-row .ensures .long, rw (below-suc, ← l .inv .2, ← row-kind _ _ _ _ _ _ (c .before .before .inherit-row .ensures), ← c .row-right .ensures) refl)
+loop-again c = (omega arith, c .kind-right .ensures .1, rw (below-suc, ← c .before .before .before .loop .inv .2, ← c .kind-right .ensures .0) refl)
 
 returns : tie.Need-returns Inv-loop μ-loop
 unfolding right
@@ -52,13 +41,4 @@ returns c =
 pub entries-right-spec : {M : Type 1} → statement M
 entries-right-spec =
     tie.close
-    (tie.spec
-    Inv-loop
-    μ-loop
-    loop-holds
-    inherit-row-requires
-    row-right-requires
-    add-c
-    loop-less
-    loop-again
-    returns)
+    (tie.spec Inv-loop μ-loop loop-holds kind-right-requires add-c loop-less loop-again returns)

@@ -3,49 +3,54 @@ use mathlib.Core.Path.{sym, _∙_}
 use mathlib.Core.Bool.{true, false}
 use native.Mathlib.Omega.{arith}
 use Rattle.deciding.proofs.DecidingLaws.{deciding-none, deciding-some, first-held}
+use Rattle.deciding.proofs.Places.{first-same}
 use borrow.Author.Needs.{needs}
 use Rattle.deciding.proofs.deciding.decide.Statement.{statement}
 use Rattle.deciding.proofs.deciding.decide.Tie as tie
 
-first-common-requires : tie.Need-first-common-requires
-first-common-requires c κs = search needs
+first-of-requires : tie.Need-first-of-requires
+first-of-requires c κs = search needs
 
 returns : tie.Need-returns
-returns c = deciding-none _ _ _ _ _ (c .before .first-common .ensures) (c .if1 .taken)
+returns c ruled j same = deciding-none _ _ ruled _ j (first-same _ _ same (c .before .first-of .ensures)) (c .if1 .taken)
 
 element-copy-out-o : tie.Need-element-copy-out-o
 element-copy-out-o c = search needs
 
 cast-o : tie.Need-cast-o
-cast-o c = omega (arith, first-held (c .before .before .before .args .order .now) _ _ _ _ (c .before .before .first-common .ensures) (c .before .before .before .pre .2) (c .before .if1 .left))
-
-cast-covers : tie.Need-cast-covers
-cast-covers c = omega (arith, first-held (c .before .before .before .args .order .now) _ _ _ _ (c .before .before .first-common .ensures) (c .before .before .before .pre .2) (c .before .if1 .left))
+cast-o c = omega (arith, first-held (c .before .before .before .args .order .now) _ (c .before .before .first-of .ensures) (c .before .before .before .pre .1) (c .before .if1 .left))
 
 covers-requires : tie.Need-covers-requires
-covers-requires c κs =
+covers-requires c κs = first-held (c .before .before .before .args .order .now) _ (c .before .before .first-of .ensures) (c .before .before .before .pre .1) (c .before .if1 .left)
+
+cast-t14 : tie.Need-cast-t14
+cast-t14 c =
     let s = c .before .before .before in
-    (s .pre .0, s .pre .1, first-held (c .before .before .before .args .order .now) _ _ _ _ (c .before .before .first-common .ensures) (s .pre .2) (c .before .if1 .left))
+    omega (arith, first-held (s .before .before .args .order .now) _ (s .before .first-of .ensures) (s .before .before .pre .1) (s .if1 .left))
 
 cast-t16 : tie.Need-cast-t16
 cast-t16 c = search needs
 
 returns-2 : tie.Need-returns-2
-returns-2 c = deciding-some _ _ _ _ _ (c .before .before .before .before .first-common .ensures) (c .before .before .before .if1 .left) true (sym (c .if2 .taken) ∙ c .before .covers .ensures)
+returns-2 c ruled j same =
+    let s = c .before .before .before in
+    deciding-some _ _ ruled _ j (first-same _ _ same (s .before .first-of .ensures)) (s .if1 .left) true (sym (c .if2 .taken) ∙ c .before .covers .ensures ruled _ j same)
 
 returns-3 : tie.Need-returns-3
-returns-3 c = deciding-some _ _ _ _ _ (c .before .before .before .before .first-common .ensures) (c .before .before .before .if1 .left) false (sym (c .if2 .left) ∙ c .before .covers .ensures)
+returns-3 c ruled j same =
+    let s = c .before .before .before in
+    deciding-some _ _ ruled _ j (first-same _ _ same (s .before .first-of .ensures)) (s .if1 .left) false (sym (c .if2 .left) ∙ c .before .covers .ensures ruled _ j same)
 
 pub decide-spec : {M : Type 1} → statement M
 decide-spec =
     tie.close
     (tie.spec
-    first-common-requires
+    first-of-requires
     returns
     element-copy-out-o
     cast-o
-    cast-covers
     covers-requires
+    cast-t14
     cast-t16
     returns-2
     returns-3)
