@@ -64,7 +64,7 @@ pub fn unmark(rows: &mut [u64; 256], c: usize, p: usize)
 }
 
 // Row k is joined into row c.
-pub fn join(rows: &mut [u64; 256], c: usize, k: usize)
+fn join(rows: &mut [u64; 256], c: usize, k: usize)
     requires { ⌜ (length (now rows) ≡ 256) × (c < 128) × (k < 128) ⌝ }
     ensures { λ _. ⌜ Added (now (rows .entry)) (now (rows .exit)) (λ d q. eqb d c && bit (now (rows .entry)) k q) ⌝ }
 {

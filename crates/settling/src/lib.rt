@@ -260,7 +260,7 @@ fn kind_right(
 }
 
 // Whether every entry is what its kind's own rules, its parents' entries and the kinds left give.
-pub fn entries_right(
+fn entries_right(
     rows: &[u64; 256],
     order: &[u8; 128],
     reach: &[u64; 256],
