@@ -57,6 +57,26 @@ fn decide(order: &[u8; 128], reach: &[u64; 256], c: usize, near: u64, far: u64) 
     }
 }
 
+// The entry e of kind c for mark j alone, decided where it says that the parents differ.
+pub fn decide_entry(
+    order: &[u8; 128],
+    reach: &[u64; 256],
+    ruled: &[u64; 256],
+    c: usize,
+    j: usize,
+    e: u16,
+) -> u16
+    requires { ⌜ (c < 128) × (j < 64) × (Held (now order) (now reach) c) ⌝ }
+    ensures { λ r. ⌜ r ≡ apart c e (deciding (now (order .entry)) (now (reach .entry)) (now (ruled .entry)) c j) ⌝ }
+{
+    if e != 257 + c as u16 {
+        return e;
+    }
+    let near = reach[2 * c] & ruled[2 * j];
+    let far = reach[2 * c + 1] & ruled[2 * j + 1];
+    encode(decide(order, reach, c, near, far))
+}
+
 // Whether none of the eight entries from `from` on says that the parents of kind c differ. The eight are looked at at once.
 fn eight_agreed(from: usize, c: usize, out: &[u16; 64]) -> bool
     requires { ⌜ (c < 128) × (from + 8 ≤ 64) × (length (now out) ≡ 64) ⌝ }

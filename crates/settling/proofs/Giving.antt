@@ -4,6 +4,8 @@
 --     row-kind                          a row that is worked out, compared with the entries of its kind
 --     given-one, given-two              what a kind with one parent, and with two, is given
 --     row-owned                         the own rules win
+--     given-zero, given-next            no parent is gone through; all up to the next are
+--     given-merge, step-done            one entry: one parent more; it is worked out
 --     row-decided                       the own rules win, and where the parents differ the kinds left decide: the row is worked out
 -- Assumes nothing.
 use mathlib.Core.Path.{_≡_, refl, sym, _∙_, ap}
@@ -47,7 +49,7 @@ module _ (m : ℕ) (up : ℕ → ℕ → Bool) (entries : List ℕ) (c : ℕ) wh
   unfolding given meet
   given-skip k j u = rw (add-one, meet, u) refl
 
-  given-zero : (j : ℕ) → given m up entries c 0 j ≡ 0
+  pub given-zero : (j : ℕ) → given m up entries c 0 j ≡ 0
   unfolding given meet
   given-zero j = refl
 
@@ -56,7 +58,7 @@ module _ (m : ℕ) (up : ℕ → ℕ → Bool) (entries : List ℕ) (c : ℕ) wh
   row-none k e h = record { long = length-replicate k 0 ∙ e; at = λ j a b. getD-replicate k j 0 0 (omega arith) }
 
   -- p is the next parent from k on, if there is one below n
-  given-next : {k n p : ℕ} → First (up c) k 128 p → k ≤ n → (j : ℕ) → given m up entries c (min p n) j ≡ given m up entries c k j
+  pub given-next : {k n p : ℕ} → First (up c) k 128 p → k ≤ n → (j : ℕ) → given m up entries c (min p n) j ≡ given m up entries c k j
   given-next s h j = first-skips (λ k. given m up entries c k j) (up c) (λ k u. given-skip k j u) s h
 
   pub row-next : {k n p lo hi : ℕ} {out : List ℕ} → First (up c) k 128 p → k ≤ n → Row lo hi (given m up entries c k) out → Row lo hi (given m up entries c (min p n)) out
@@ -74,6 +76,13 @@ module _ (m : ℕ) (up : ℕ → ℕ → Bool) (entries : List ℕ) (c : ℕ) wh
       let all : min p n ≡ n = omega arith in
       let r : Row lo hi (given m up entries c (min p n)) (replicate k 0) = row-next s (omega arith) (row-none k e h) in
       rw all at r
+
+  -- one parent more, k, where e is what those before it give
+  pub given-merge : (k j : ℕ) {n p e : ℕ} → up c k ≡ true → k < n → e ≡ given m up entries c (min k n) j → First (up c) (k + 1) 128 p
+      → merged c e (getD entries (k * m + j) 0) ≡ given m up entries c (min p n) j
+  given-merge k j {n} u h is s =
+      let at : min k n ≡ k = omega arith in
+      ap (λ (e : ℕ). merged c e (getD entries (k * m + j) 0)) (is ∙ ap (λ (i : ℕ). given m up entries c i j) at) ∙ given-more k j u ∙ sym (given-next s (omega arith) j)
 
   -- p is the first parent
   given-first : {n p : ℕ} → First (up c) 0 128 p → p < n → up c p ≡ true → (j : ℕ) → getD entries (p * m + j) 0 ≡ given m up entries c (p + 1) j
@@ -119,6 +128,20 @@ module _ (m : ℕ) (up : ℕ → ℕ → Bool) (entries : List ℕ) (c : ℕ) wh
         go true = ap (λ (v : Lookup). entryOf (narrowed c (passing (lefts j) n) v)) (given-coded n j)
         go false = refl
 
+    -- `decision` is what the kinds left decide for mark j
+    step-decided : (decision : Lookup) (j : ℕ) → c < 128 → decision ≡ decided (passing (left n up (ownOf m rules j) c) n) (Dispute (kind c))
+        → apart c (ruled c (getD rules (c * m + j) 0) (given m up entries c n j)) decision ≡ stepped n m up rules entries c j
+    step-decided decision j h right = let rule = getD rules (c * m + j) 0 in
+        apart-ruled c rule (given m up entries c n j) decision h
+        ∙ ap (ruled c rule) (apart-narrows n (lefts j) c (given m up entries c n j) decision right) ∙ given-own j
+
+    -- .. where e is what all parents give
+    pub step-done : (decision : Lookup) (j : ℕ) {p e : ℕ} → c < 128 → decision ≡ decided (passing (left n up (ownOf m rules j) c) n) (Dispute (kind c))
+        → e ≡ given m up entries c (min p n) j → n ≤ p → apart c (ruled c (getD rules (c * m + j) 0) e) decision ≡ stepped n m up rules entries c j
+    step-done decision j {p} h right is l =
+        let all : min p n ≡ n = omega arith in
+        ap (λ (e : ℕ). apart c (ruled c (getD rules (c * m + j) 0) e) decision) (is ∙ ap (λ (k : ℕ). given m up entries c k j) all) ∙ step-decided decision j h right
+
     -- `decisions j` is what the kinds left decide for mark j
     pub row-decided : (decisions : ℕ → Lookup) {lo hi : ℕ} {mid new : List ℕ} → c < 128
         → ((j : ℕ) → j < hi → decisions j ≡ decided (passing (left n up (ownOf m rules j) c) n) (Dispute (kind c)))
@@ -127,10 +150,7 @@ module _ (m : ℕ) (up : ℕ → ℕ → Bool) (entries : List ℕ) (c : ℕ) wh
         → Row lo hi (stepped n m up rules entries c) new
     row-decided decisions h right o s =
         row-same (stepped n m up rules entries c)
-        (λ j a b. let rule = getD rules (c * m + j) 0 in
-        ap (λ (e : ℕ). apart c e (decisions j)) (o .at j a b)
-        ∙ apart-ruled c rule (given m up entries c n j) (decisions j) h
-        ∙ ap (ruled c rule) (apart-narrows n (lefts j) c (given m up entries c n j) (decisions j) (right j b)) ∙ given-own j) s
+        (λ j a b. ap (λ (e : ℕ). apart c e (decisions j)) (o .at j a b) ∙ step-decided (decisions j) j h (right j b)) s
 
 -- the own rules win in a row that has what the parents give
 pub row-owned : {lo hi : ℕ} {f : ℕ → ℕ} {out mid : List ℕ} (c : ℕ) (rule : ℕ → ℕ) → Row lo hi f out → Row lo hi (λ j. ruled c (rule j) (getD out j 0)) mid → Row lo hi (λ j. ruled c (rule j) (f j)) mid

@@ -1,6 +1,7 @@
 -- Entries that are written, place by place, and counted where they were others.
 --     other-byte                       whether an entry was another, as code computes it
 --     written-none, written-store      no mark is written; one more is
+--     written-one                      one mark alone is
 --     written-as                       the same under another description of the entries
 -- Assumes nothing.
 use mathlib.Core.Path.{_≡_, refl, sym, _∙_, ap, subst}
@@ -8,7 +9,7 @@ use mathlib.Core.Logic.{_≢_, ⊎-elim}
 use mathlib.Core.Bool.{Bool, true, false, not}
 use mathlib.Core.List.{List}
 use Prim.Native.Nat.{ℕ, _+_, _*_, _<_, _≤_}
-use native.Mathlib.Nat.{eq-or-lt-of-le, add-zero, add-assoc}
+use native.Mathlib.Nat.{eq-or-lt-of-le, add-zero, zero-add, add-assoc}
 use native.Mathlib.Omega.{arith}
 use mir.Val.{boolByte}
 use lib.Dec.{eqb}
@@ -55,6 +56,12 @@ written-store {m} {lo} {j} {c} {f} {old} {new} {count} v w l h e = record {
 
     here : getD new (c * m + j) 0 ≡ getD old (c * m + j) 0
     here = w .kept (c * m + j) (λ k a b q. omega arith)
+
+-- one mark alone
+pub written-one : (m lo c : ℕ) (f : ℕ → ℕ) (old : List ℕ) (v : ℕ) → c * m + lo < length old → v ≡ f lo
+    → Written m lo (lo + 1) c f old (set old (c * m + lo) v) (differ (getD old (c * m + lo) 0) v)
+written-one m lo c f old v h e =
+    subst (Written m lo (lo + 1) c f old (set old (c * m + lo) v)) (zero-add (differ (getD old (c * m + lo) 0) v)) (written-store v (written-none m lo c f old) (omega arith) h e)
 
 pub written-as : {m lo hi c : ℕ} {f : ℕ → ℕ} {old new : List ℕ} {count : ℕ} (g : ℕ → ℕ) → ((j : ℕ) → lo ≤ j → j < hi → f j ≡ g j)
     → Written m lo hi c f old new count → Written m lo hi c g old new count

@@ -2,6 +2,7 @@
 // kind for a range of marks: `examine` compares it with the table, and `settle` writes it, kind after kind, those above a
 // kind before it.
 use arranging::arrange;
+use deciding::decide_entry;
 use deciding::decide_row;
 use deciding::rule_rows;
 use inheritance::Lookup;
@@ -359,7 +360,35 @@ fn write_row(m: usize, lo: usize, hi: usize, c: usize, out: &[u16; 64], entries:
     count
 }
 
-// The entries of kind c are worked out and written. How many were others.
+// The entry of kind c for mark j alone, as `inherit_row` works out a row.
+fn inherit_entry(
+    rows: &[u64; 256],
+    order: &[u8; 128],
+    reach: &[u64; 256],
+    ruled: &[u64; 256],
+    n: usize,
+    m: usize,
+    rules: &[u16],
+    entries: &[u16],
+    c: usize,
+    j: usize,
+) -> u16
+    requires { ⌜ (Sized n m (now rules) (now entries)) × (Prepared n m (now rows) (now rules) (now order) (now reach) (now ruled)) ⌝ }
+    requires { ⌜ (c < n) × (j < m) ⌝ }
+    ensures { λ r. ⌜ r ≡ stepped n m (bit (now (rows .entry))) (now (rules .entry)) (now (entries .entry)) c j ⌝ }
+{
+    let kind = c as u16;
+    let mut e = 0u16;
+    let mut p = next(rows, c, 0);
+    while p < n {
+        e = merge(kind, e, entries[p * m + j]);
+        p = next(rows, c, p + 1);
+    }
+    let owned = own(kind, rules[c * m + j], e);
+    decide_entry(order, reach, ruled, c, j, owned)
+}
+
+// The entries of kind c are worked out and written. How many were others. A single mark needs no row.
 fn settle_kind(
     rows: &[u64; 256],
     order: &[u8; 128],
@@ -377,6 +406,10 @@ fn settle_kind(
     requires { ⌜ (Marks m lo hi) × (c < n) ⌝ }
     ensures { λ r. ⌜ (r ≤ 64) × (Written m lo hi c (stepped n m (bit (now (rows .entry))) (now (rules .entry)) (now (entries .entry)) c) (now (entries .entry)) (now (entries .exit)) r) ⌝ }
 {
+    if hi == lo + 1 {
+        let e = inherit_entry(rows, order, reach, ruled, n, m, rules, entries, c, lo);
+        return put(entries, c * m + lo, e);
+    }
     let mut out = [0u16; 64];
     inherit_row(
         rows,
