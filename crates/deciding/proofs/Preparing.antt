@@ -1,16 +1,16 @@
 -- What is prepared for a book, as an edit of a rule reads it and keeps it.
 --     kind-place                     the first place in row c of reach is that of kind c
 --     own-kept                       the own rule of kind e for a mark is set: the others stay
---     prepared-added, prepared-removed     .. and the place of e is put into the row of the mark, or taken out of it: what is prepared is so for the new rules
+--     prepared-set                   .. and the place of e is put into the row of the mark, or taken out of it: what is prepared is so for the new rules
 -- Assumes nothing.
 use mathlib.Core.Path.{_≡_, refl, sym, _∙_, ap}
 use mathlib.Core.Logic.{_≢_, _⊎_, inl, inr, ⊎-elim, by-cases}
-use mathlib.Core.Bool.{Bool, true, false, _&&_, _||_, not, true≢false, or-true}
+use mathlib.Core.Bool.{Bool, true, false, _&&_, not, true≢false}
 use mathlib.Core.List.{List}
 use Prim.Native.Nat.{ℕ, _+_, _*_, _<_, _≤_}
 use native.Mathlib.Decide.{decLt}
 use native.Mathlib.Omega.{arith}
-use borrow.Author.Tests.{eq-eqb, ne-eqb, lt-ltb, ltb-true}
+use borrow.Author.Tests.{eq-eqb, lt-ltb, ltb-true}
 use lib.Arith.{digits-lt}
 use lib.Dec.{eqb, ltb}
 use lib.ListN.{length, getD, set}
@@ -18,9 +18,9 @@ use lib.Seq.{getD-set-same, getD-set-other}
 use Rattle.inheritance.specs.Above.{above}
 use Rattle.inheritance.proofs.AboveLaws.{chain-above}
 use Rattle.arranging.specs.Arranged.{Arranged}
-use Rattle.relation.specs.Bit.{bit, Added, Removed}
+use Rattle.relation.specs.Bit.{bit}
 use Rattle.relation.specs.First.{First}
-use Rattle.relation.proofs.Bools.{or-false, and-false, and-true, both-eqb}
+use Rattle.relation.proofs.Bools.{both-eqb}
 use Rattle.tables.specs.Tables.{ownOf}
 use Rattle.tables.proofs.TableLaws.{place-split}
 use Rattle.deciding.specs.Deciding.{Prepared}
@@ -83,9 +83,3 @@ module _ (m : ℕ) (rules : List ℕ) (e mark handling : ℕ) (mark-in : mark < 
         go j q h true e =
             let (same-mark, same-place) = both-eqb j mark q i e in
             sets (bit ruled j q) ∙ rw (same-mark, same-place, lt-ltb i n i<n, lt-ltb mark m mark-in) (sym own-set)
-
-    pub prepared-added : handling ≢ 0 → Added ruled new (λ d q. eqb d mark && eqb q i) → Prepared n m rows rules′ order reach new
-    prepared-added some a = prepared-set _||_ or-false (λ b. or-true b ∙ sym (ap not (ne-eqb handling 0 some))) (a .long) (a .bits)
-
-    pub prepared-removed : handling ≡ 0 → Removed ruled new (λ d q. eqb d mark && eqb q i) → Prepared n m rows rules′ order reach new
-    prepared-removed none a = prepared-set (λ s t. s && not t) and-true (λ b. and-false b ∙ sym (ap not (eq-eqb handling 0 none))) (a .long) (a .bits)

@@ -1,7 +1,7 @@
 -- The rows while `load` goes through the bytes, row by row.
 --     filled-none       nothing, in blank rows
 --     filled-mark, filled-keep     one place more, which is a link or is none
---     filled-start, filled-end     a row's start and its end
+--     filled-end        a row's end
 --     loaded            after the last row
 --     row-within        the bytes of a row are there
 -- Assumes nothing.
@@ -69,10 +69,6 @@ pub filled-none : (n : ℕ) (links : List ℕ) {rows : List ℕ} → Blank rows 
 filled-none n links b = record { long = b .long; bits = λ d q h. rw (le-ltb d 0 zero-le) (b .none d q) }
 
 -- ---- a row
-
-pub filled-start : (c n : ℕ) (links rows : List ℕ) → Filled (rows-before c) n links rows → Filled (before c 0) n links rows
-filled-start c n links rows f =
-    record { long = f .long; bits = λ d q h. rw (le-ltb q 0 zero-le, and-false, or-false) (f .bits d q h) }
 
 pub filled-mark : (c p n : ℕ) (links rows next : List ℕ) → c < n → p < n → Filled (before c p) n links rows
     → getD links (c * n + p) 0 ≡ 1 → Added rows next (λ d q. eqb d c && eqb q p) → Filled (before c (p + 1)) n links next
