@@ -17,7 +17,7 @@ use Rattle.inheritance.specs.Above.{Chain, link, step, Upto, Acyclic, above}
 use Rattle.inheritance.proofs.AboveLaws.{or-cases, above-chain, chain-above, upto-step}
 use Rattle.relation.specs.Bit.{bit, Blank}
 use Rattle.arranging.specs.Arranged.{state, unplaced, Joined, Placed, Climbed, Arranged, Arrangement}
-use Rattle.relation.proofs.Bools.{same-bool}
+use Rattle.inheritance.proofs.Bools.{same-bool}
 use Rattle.relation.proofs.Zeros.{getD-zeros}
 use Rattle.arranging.proofs.Placing.{count-none, count-some, unplaced-at, placed-none}
 

@@ -10,7 +10,7 @@
 -- Assumes nothing.
 use mathlib.Core.Path.{_≡_, refl, sym, ap, _∙_}
 use mathlib.Core.Logic.{_≢_, _⊎_, inl, inr, ⊎-elim, by-cases}
-use mathlib.Core.Bool.{Bool, true, false, _&&_, false≢true}
+use mathlib.Core.Bool.{Bool, true, false, _&&_, false≢true, and-eq-true-iff}
 use mathlib.Core.List.{List}
 use Prim.Native.Nat.{ℕ, _+_, _-_, _*_, _<_, _≤_, min}
 use native.Mathlib.Decide.{ℕ-discrete, decLt}
@@ -25,8 +25,8 @@ use Rattle.inheritance.proofs.AboveLaws.{count-lt, upto-chain, no-chain}
 use Rattle.relation.specs.Bit.{bit}
 use Rattle.relation.specs.First.{First}
 use Rattle.arranging.specs.Arranged.{state, unvisited, Placed, Fresh, Climbed}
-use Rattle.relation.proofs.Bools.{both-true}
-use Rattle.arranging.proofs.Placing.{SetAt, set-at, Widened, apart, placed-row, placed-visit, placed-more}
+use Rattle.relation.proofs.Stores.{SetAt, set-at}
+use Rattle.arranging.proofs.Placing.{Widened, apart, placed-row, placed-visit, placed-more}
 use Rattle.arranging.proofs.Gathering.{Gathered, Written, gathered-none, gathered-kept, gathered-more, gathered-written, gathered-joined}
 
 unvisited-at : (s : List ℕ) (d x : ℕ) → state s d ≡ x → unvisited s d ≡ eqb x 0
@@ -96,7 +96,7 @@ module _ {n : ℕ} {up : ℕ → ℕ → Bool} {c : ℕ} (most : n ≤ 128) wher
       gathered = gathered-more u (s .gathered);
       gone = λ x h e. by-cases (decLt x p) (λ m. s .gone x m e) (λ m. let same : x ≡ p = omega arith in omega (arith, ap (state w) same));
       fit = λ g x h e.
-          let both = both-true good (eqb (state w p) 2) g in
+          let both = and-eq-true-iff good (eqb (state w p) 2) .0 g in
           by-cases (decLt x p) (λ m. s .fit (both .0) x m e)
           (λ m. let same : x ≡ p = omega arith in ap (state w) same ∙ eqb-true (state w p) 2 (both .1));
       calm = λ acyclic ways. let (fine, old) = s .calm acyclic ways in (rw fine (eq-eqb (state w p) 2 (two acyclic ways old)), old);

@@ -1,5 +1,4 @@
 -- The kinds that have a place, while `climb` goes up the links.
---     set-at                           what stands at j after a store at k
 --     count-all, -none, -some, -one    counts: all pass; none; some; one more
 --     Widened, widened                 one row has more, and the others are as they were
 --     joined-kept, joined-own          row c: in rows that are the same where it counts; with a place of its own
@@ -9,7 +8,7 @@
 -- Assumes nothing.
 use mathlib.Core.Path.{_≡_, refl, sym, ap, subst, _∙_}
 use mathlib.Core.Logic.{_≢_, _⊎_, inl, inr, ⊎-elim}
-use mathlib.Core.Bool.{Bool, true, false, _&&_, _||_, not, or-true}
+use mathlib.Core.Bool.{Bool, true, false, _&&_, _||_, not, or-true, or-false}
 use mathlib.Core.List.{List}
 use Prim.Native.Nat.{ℕ, zero, suc, _+_, _-_, _<_, _≤_}
 use native.Mathlib.Decide.{ℕ-discrete}
@@ -18,49 +17,39 @@ use borrow.Author.Tests.{eq-eqb, ne-eqb, eqb-true}
 use lib.Dec.{eqb}
 use lib.ListN.{length, getD, set, replicate, length-set, length-replicate}
 use lib.Seq.{getD-set-same, getD-set-other}
-use Rattle.inheritance.specs.Above.{bit as digit, count}
+use Rattle.inheritance.specs.Above.{one-if, count}
 use Rattle.inheritance.proofs.AboveLaws.{or-cases, lt-suc-cases, count-same}
 use Rattle.relation.specs.Bit.{bit, Blank, Added}
 use Rattle.arranging.specs.Arranged.{state, unplaced, Joined, Placed}
-use Rattle.relation.proofs.Bools.{or-false}
+use Rattle.relation.proofs.Stores.{SetAt, set-at}
 use Rattle.relation.proofs.Zeros.{getD-zeros}
 
 -- ---- lists and counts
 
-abbrev pub SetAt : List ℕ → ℕ → ℕ → ℕ → Type 0
-SetAt v k a j = ((j ≡ k) × (getD (set v k a) j 0 ≡ a)) ⊎ ((j ≢ k) × (getD (set v k a) j 0 ≡ getD v j 0))
-
-pub set-at : (v : List ℕ) (k a : ℕ) → k < length v → (j : ℕ) → SetAt v k a j
-set-at v k a lt j = go (ℕ-discrete j k)
-  where
-    go : Dec (j ≡ k) → SetAt v k a j
-    go (yes e) = inl (e, ap (λ (i : ℕ). getD (set v k a) i 0) e ∙ getD-set-same v k a 0 lt)
-    go (no ne) = inr (ne, getD-set-other v k j a 0 ne)
-
 pub count-all : (f : ℕ → Bool) (n : ℕ) → ((c : ℕ) → c < n → f c ≡ true) → count f n ≡ n
 unfolding count
 count-all f zero h = refl
-count-all f (suc n) h = omega (arith, count-all f n (λ c l. h c (omega arith)), ap digit (h n (omega arith)))
+count-all f (suc n) h = omega (arith, count-all f n (λ c l. h c (omega arith)), ap one-if (h n (omega arith)))
 
 pub count-one : (f g : ℕ → Bool) (n c : ℕ) → c < n → f c ≡ false → g c ≡ true → ((d : ℕ) → d < n → d ≢ c → f d ≡ g d) → count g n ≡ count f n + 1
 unfolding count
 count-one f g zero c l fc gc same = absurd (omega arith)
 count-one f g (suc n) c l fc gc same =
     ⊎-elim
-    (λ e. omega (arith, ap digit (rw e at fc), ap digit (rw e at gc), count-same f g n (λ d m. same d (omega arith) (omega arith))))
-    (λ m. omega (arith, count-one f g n c m fc gc (λ d j. same d (omega arith)), ap digit (same n (omega arith) (omega arith))))
+    (λ e. omega (arith, ap one-if (rw e at fc), ap one-if (rw e at gc), count-same f g n (λ d m. same d (omega arith) (omega arith))))
+    (λ m. omega (arith, count-one f g n c m fc gc (λ d j. same d (omega arith)), ap one-if (same n (omega arith) (omega arith))))
     (lt-suc-cases l)
 
 pub count-none : (f : ℕ → Bool) (n : ℕ) → ((c : ℕ) → c < n → f c ≡ false) → count f n ≡ 0
 unfolding count
 count-none f zero h = refl
-count-none f (suc n) h = omega (arith, count-none f n (λ c l. h c (omega arith)), ap digit (h n (omega arith)))
+count-none f (suc n) h = omega (arith, count-none f n (λ c l. h c (omega arith)), ap one-if (h n (omega arith)))
 
 pub count-some : (f : ℕ → Bool) (n c : ℕ) → c < n → f c ≡ true → 0 < count f n
 unfolding count
 count-some f zero c l e = absurd (omega arith)
 count-some f (suc n) c l e =
-    ⊎-elim (λ same. omega (arith, ap digit (rw same at e))) (λ m. omega (arith, count-some f n c m e)) (lt-suc-cases l)
+    ⊎-elim (λ same. omega (arith, ap one-if (rw same at e))) (λ m. omega (arith, count-some f n c m e)) (lt-suc-cases l)
 
 -- ---- one row
 

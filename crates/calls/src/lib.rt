@@ -1,25 +1,44 @@
-// The calls on a book, each in a file of its own.
-mod carrying;
-mod disputing;
-mod finding;
-mod gathering;
-mod inspecting;
-mod links;
-mod opening;
-mod refreshing;
-mod resettling;
-mod rules;
-mod stops;
-mod tallying;
-
-pub use carrying::Call;
-pub use carrying::carry_out;
-pub use disputing::parties;
-pub use finding::find;
+// The calls on a book, and one dispatcher for all of them: a call given as a value is carried out, and answered by a value.
+use edits::make;
+use tables::Answer;
+use tables::Call;
+use tables::Request;
+ghost use Rattle.tables.specs.Books.{Carried, callOf, answered};
+ghost use Rattle.tables.specs.Tables.{lent};
+pub use edits::add_link;
+pub use edits::add_rule;
+pub use edits::take_link;
+pub use edits::take_rule;
 pub use inspecting::inspect;
-pub use links::add_link;
-pub use links::take_link;
-pub use opening::open;
-pub use refreshing::refresh;
-pub use rules::add_rule;
-pub use rules::take_rule;
+pub use questions::find;
+pub use questions::parties;
+pub use renewing::open;
+pub use renewing::refresh;
+
+// The call is carried out on the tables. It is the step of the promise between two books.
+pub fn carry_out(
+    call: Call,
+    links: &mut [u8],
+    rules: &mut [u16],
+    entries: &mut [u16],
+    tally: &mut [u32],
+) -> Answer
+    ensures { λ r. ⌜ Carried (callOf call) (lent (now (links .entry)) (now (rules .entry)) (now (entries .entry)) (now (tally .entry)))
+        (answered r) (lent (now (links .exit)) (now (rules .exit)) (now (entries .exit)) (now (tally .exit))) ⌝ }
+{
+    let n = call.n;
+    let m = call.m;
+    let request = call.request;
+    match request {
+        Request::Open => Answer::Opened(open(n, m, links, rules, entries, tally)),
+        Request::Edit(edit) => Answer::Edited(make(edit, n, m, links, rules, entries, tally)),
+        Request::Find(kind, mark) => {
+            Answer::Found(find(n, m, links, rules, entries, tally, kind, mark))
+        }
+        Request::Parties(kind, mark) => {
+            Answer::Paired(parties(n, m, links, rules, entries, tally, kind, mark))
+        }
+        Request::Inspect => Answer::Inspected(inspect(n, m, links, rules, entries, tally)),
+        Request::Refresh => Answer::Edited(refresh(n, m, links, rules, entries, tally)),
+    }
+}

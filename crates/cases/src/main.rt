@@ -1,6 +1,7 @@
 // Puts the lines of a session to session::line, and prints each with its answer: document 01's session, then the edges that it names.
 use libc::STDOUT_FILENO;
 use session::Turned;
+use tables::TALLIES;
 ghost use Prim.Native.Nat.{_+_, _≤_, _<_};
 ghost use lib.ListN.{length};
 ghost use Rattle.tables.specs.Tables.{lent};
@@ -99,7 +100,7 @@ fn main() {
     let mut links = [0u8; 16384];
     let mut rules = [0u16; 8192];
     let mut entries = [0u16; 8192];
-    let mut tally = [0u32; 1];
+    let mut tally = [0u32; TALLIES];
     let mut text = [0u8; 64];
     let lines = b"(open 4 2)\n\
 (add (under 1 0))\n\

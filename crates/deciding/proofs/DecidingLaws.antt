@@ -33,7 +33,7 @@ use Rattle.relation.proofs.BitLaws.{on-and}
 use Rattle.tables.specs.Entry.{entryOf}
 use Rattle.tables.specs.Tables.{ownOf}
 use Rattle.deciding.specs.Deciding.{Held, Words, common, outside, covered, first-below, decision, deciding}
-use Rattle.deciding.specs.Ruling.{Ruled}
+use Rattle.ruling.specs.Ruling.{Ruled}
 use Rattle.deciding.proofs.Places.{below-first, first-is, two-words}
 
 -- ---- as the code goes

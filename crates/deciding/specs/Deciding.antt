@@ -19,7 +19,7 @@ use Rattle.inheritance.specs.Lookup.{some-below}
 use Rattle.arranging.specs.Arranged.{Arranged}
 use Rattle.relation.specs.Bit.{bit}
 use Rattle.tables.specs.Entry.{entryOf}
-use Rattle.deciding.specs.Ruling.{Ruled}
+use Rattle.ruling.specs.Ruling.{Ruled}
 
 pub record Prepared (n m : ℕ) (rows rules order reach ruled : List ℕ) : Type 0 where
   pub arranged : Arranged n rows order reach

@@ -1,4 +1,2 @@
 pub mod Deciding
-pub mod Parting
 pub mod Row
-pub mod Ruling

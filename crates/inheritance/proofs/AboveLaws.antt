@@ -5,8 +5,7 @@
 --     upto-dec                          whether p is c or above it
 --     chain-trans                       two chains joined; upto-step, upto-chain: the same where the first may have no link
 --     count-le, count-lt                a test that passes more has the larger count
---     count-in, count-out, count-same   one more that passes, or does not; tests that agree
---     rank-le                           at most n kinds are above c
+--     count-same                        tests that agree
 --     rank-lt, rank-falls, chain-falls  where no kind is above itself: fewer than n, and fewer at each parent and along each chain
 --     by-parents                        there, what is so of a kind wherever it is so of its parents is so of every kind
 --     no-chain, chainless-acyclic       no kind is above itself just where no chain leads from a kind to itself
@@ -23,7 +22,7 @@ use native.Mathlib.Nat.{add-zero, le-refl, le-of-suc-le-suc, not-suc-le-zero, eq
 use native.Mathlib.Decide.{ℕ-discrete}
 use native.Mathlib.Numerals.{add-one}
 use native.Mathlib.Omega.{arith}
-use Rattle.inheritance.specs.Above.{Chain, link, step, Upto, through, above, Acyclic, bit, count, rank}
+use Rattle.inheritance.specs.Above.{Chain, link, step, Upto, through, above, Acyclic, one-if, count, rank}
 
 pub or-cases : (a b : Bool) → (a || b) ≡ true → (a ≡ true) ⊎ (b ≡ true)
 or-cases true b e = inl refl
@@ -119,36 +118,28 @@ module _ (n : ℕ) (up up′ : ℕ → ℕ → Bool) (agree : (c p : ℕ) → c 
 
 -- ---- counts
 
-bit-le : (a b : Bool) → (a ≡ true → b ≡ true) → bit a ≤ bit b
-bit-le true b h = rw (h refl) (le-refl 1)
-bit-le false b h = zero-le
+one-if-le : (a b : Bool) → (a ≡ true → b ≡ true) → one-if a ≤ one-if b
+one-if-le true b h = rw (h refl) (le-refl 1)
+one-if-le false b h = zero-le
 
 module _ (f g : ℕ → Bool) where
   pub count-le : (n : ℕ) → ((k : ℕ) → k < n → f k ≡ true → g k ≡ true) → count f n ≤ count g n
   unfolding count
   count-le zero h = zero-le
-  count-le (suc n) h = omega (arith, count-le n (λ k l. h k (omega arith)), bit-le (f n) (g n) (h n (omega arith)))
+  count-le (suc n) h = omega (arith, count-le n (λ k l. h k (omega arith)), one-if-le (f n) (g n) (h n (omega arith)))
 
   pub count-lt : (n : ℕ) → ((k : ℕ) → k < n → f k ≡ true → g k ≡ true) → (j : ℕ) → j < n → f j ≡ false → g j ≡ true → count f n < count g n
   unfolding count
   count-lt zero h j l fj gj = absurd (not-suc-le-zero l)
   count-lt (suc n) h j l fj gj =
       let below : (k : ℕ) → k < n → f k ≡ true → g k ≡ true = λ k m. h k (omega arith) in
-      ⊎-elim (λ e. omega (arith, count-le n below, ap bit (rw e at fj), ap bit (rw e at gj)))
-      (λ m. omega (arith, count-lt n below j m fj gj, bit-le (f n) (g n) (h n (omega arith)))) (lt-suc-cases l)
-
-pub count-in : (f : ℕ → Bool) (k : ℕ) → f k ≡ true → count f (k + 1) ≡ count f k + 1
-unfolding count
-count-in f k e = rw (add-one k) (ap (λ (b : Bool). count f k + bit b) e)
-
-pub count-out : (f : ℕ → Bool) (k : ℕ) → f k ≡ false → count f (k + 1) ≡ count f k
-unfolding count
-count-out f k e = rw (add-one k) (ap (λ (b : Bool). count f k + bit b) e ∙ add-zero (count f k))
+      ⊎-elim (λ e. omega (arith, count-le n below, ap one-if (rw e at fj), ap one-if (rw e at gj)))
+      (λ m. omega (arith, count-lt n below j m fj gj, one-if-le (f n) (g n) (h n (omega arith)))) (lt-suc-cases l)
 
 pub count-same : (f g : ℕ → Bool) (n : ℕ) → ((k : ℕ) → k < n → f k ≡ g k) → count f n ≡ count g n
 unfolding count
 count-same f g zero h = refl
-count-same f g (suc n) h = ap₂ (λ (x : ℕ) (b : Bool). x + bit b) (count-same f g n (λ k l. h k (omega arith))) (h n (omega arith))
+count-same f g (suc n) h = ap₂ (λ (x : ℕ) (b : Bool). x + one-if b) (count-same f g n (λ k l. h k (omega arith))) (h n (omega arith))
 
 abbrev always : ℕ → Bool
 always k = true
@@ -161,10 +152,6 @@ count-always (suc n) = omega (arith, count-always n)
 -- ---- the rank of a kind
 
 module _ (n : ℕ) (up : ℕ → ℕ → Bool) where
-  pub rank-le : (c : ℕ) → rank n up c ≤ n
-  unfolding rank
-  rank-le c = omega (arith, count-le (above n up c) always n (λ k l e. refl), count-always n)
-
   pub upto-dec : (c p : ℕ) → p < n → Dec (Upto n up c p)
   upto-dec c p l = go (ℕ-discrete c p) (above n up c p) refl
     where

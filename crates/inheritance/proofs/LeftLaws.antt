@@ -1,5 +1,4 @@
 -- The rule kinds that are seen from a kind, and those left.
---     same-bool                          tests that pass together are equal
 --     some-true, true-some, some-same    `some-below` passes exactly if some number does; tests that agree
 --     seen-rule, seen-own, seen-test     a kind that is seen has its own rule; with an own rule only that is seen; the test `seen` is `Seen`
 --     least-test                         `least` is: one of them, and above none of them
@@ -24,12 +23,8 @@ use lib.Dec.{eqb}
 use borrow.Author.Tests.{eqb-true, eq-eqb, not-true}
 use Rattle.inheritance.specs.Above.{Chain, link, step, Upto, above, Acyclic, rank}
 use Rattle.inheritance.specs.Lookup.{Seen, here, there, open-links, seen, some-below, least, left, Left}
+use Rattle.inheritance.proofs.Bools.{same-bool}
 use Rattle.inheritance.proofs.AboveLaws.{or-cases, lt-suc-cases, chain-above, above-chain, no-chain, above-same, rank-lt, chain-falls, upto-step, upto-chain}
-
-pub same-bool : (a b : Bool) → (a ≡ true → b ≡ true) → (b ≡ true → a ≡ true) → a ≡ b
-same-bool true b to from = sym (to refl)
-same-bool false true to from = from refl
-same-bool false false to from = refl
 
 -- ---- some number passes
 

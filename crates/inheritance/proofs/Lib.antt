@@ -1,4 +1,5 @@
 -- The laws of inheritance, in the order in which they build on each other.
+pub mod Bools
 pub mod AboveLaws
 pub mod MeetLaws
 pub mod LeftLaws

@@ -19,7 +19,8 @@ use Rattle.inheritance.specs.Above.{Chain, link, step, Upto, above, Acyc
 use Rattle.inheritance.specs.Checked.{kind}
 use Rattle.inheritance.specs.Lookup.{Seen, here, there, least, left, Left, passing, decided}
 use Rattle.inheritance.proofs.AboveLaws.{or-cases, above-chain, chain-above, no-chain, upto-step, upto-chain}
-use Rattle.inheritance.proofs.LeftLaws.{same-bool, Least, least-test, least-under, left-test, seen-rule}
+use Rattle.inheritance.proofs.Bools.{same-bool}
+use Rattle.inheritance.proofs.LeftLaws.{Least, least-test, least-under, left-test, seen-rule}
 use Rattle.inheritance.proofs.DecideLaws.{decided-cases}
 
 module _ (n : ℕ) (up : ℕ → ℕ → Bool) (own : ℕ → Bool) where

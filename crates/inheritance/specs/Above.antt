@@ -29,13 +29,13 @@ above n up c p = through up n c p
 abbrev pub Acyclic : ℕ → (ℕ → ℕ → Bool) → Type 0
 Acyclic n up = (c : ℕ) → c < n → above n up c c ≡ false
 
-abbrev pub bit : Bool → ℕ
-bit true = 1
-bit false = 0
+abbrev pub one-if : Bool → ℕ
+one-if true = 1
+one-if false = 0
 
 unfoldable pub count : (ℕ → Bool) → ℕ → ℕ
 count f zero = 0
-count f (suc n) = count f n + bit (f n)
+count f (suc n) = count f n + one-if (f n)
 
 unfoldable pub rank : ℕ → (ℕ → ℕ → Bool) → ℕ → ℕ
 rank n up c = count (above n up c) n

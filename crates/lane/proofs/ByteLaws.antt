@@ -1,5 +1,6 @@
 -- Numbers that bytes spell: `joined b s` joins the neighbours of s.
 --     joined-length   half as many, where s has an even length
+--     joined-within   a place of the numbers has both its bytes
 --     joined-at       the number at place i is made of the two at 2 * i and 2 * i + 1
 -- Assumes nothing.
 use mathlib.Core.Path.{_≡_, refl, ap}
@@ -15,6 +16,13 @@ joined-length b [] k e = omega arith
 joined-length b (x ∷ []) k e = omega arith
 joined-length b (x ∷ y ∷ s) zero e = omega arith
 joined-length b (x ∷ y ∷ s) (suc k) e = ap suc (joined-length b s k (omega arith))
+
+pub joined-within : (b : ℕ) (s : List ℕ) (i : ℕ) → i < length (joined b s) → 2 * i + 1 < length s
+unfolding joined
+joined-within b [] i h = omega arith
+joined-within b (x ∷ []) i h = omega arith
+joined-within b (x ∷ y ∷ s) zero h = omega arith
+joined-within b (x ∷ y ∷ s) (suc i) h = omega (arith, joined-within b s i (omega arith))
 
 pub joined-at : (b : ℕ) (s : List ℕ) (i : ℕ) → 2 * i + 1 < length s → getD (joined b s) i 0 ≡ getD s (2 * i) 0 + b * getD s (2 * i + 1) 0
 unfolding joined

@@ -2,6 +2,7 @@
 --     packed-plain             none or a dispute: the entry is the upper half
 --     packed-bad               an entry that is none of the three
 --     spelled-shape            where the bytes have their lengths, so have the numbers that they spell
+--     bytes-within             what an answer on the bytes requires
 --     packed-refused           a refusal's number
 --     packed-at                the packed answer at a kind and a mark of the book
 -- Assumes nothing.
@@ -16,14 +17,15 @@ use Rattle.inheritance.specs.declared.Kind.{Kind}
 use Rattle.inheritance.specs.declared.Mark.{Mark}
 use Rattle.inheritance.specs.Checked.{kindBelow, markBelow}
 use Rattle.tables.specs.declared.Refusal.{Refusal}
-use Rattle.tables.specs.declared.Asked.{Asked}
-use Rattle.tables.specs.Ask.{asked}
+use Rattle.asking.specs.declared.Asked.{Asked}
+use Rattle.asking.specs.Ask.{askedKind, asked, Within}
 use Rattle.tables.specs.Reply.{refusalNumber}
 use Rattle.tables.specs.Tables.{Tables, shaped}
 use Rattle.tables.specs.Calls.{findingOf}
 use Rattle.tables.specs.Controller.{words16, spelled, shaped-bytes, packed, findPacked}
-use Rattle.tables.proofs.ShapeLaws.{and-iff, sized-facts, facts-sized, asked-at}
-use Rattle.tables.proofs.FindingLaws.{finding-none, finding-dispute, finding-bad, answered, find-at, find-refused}
+use Rattle.tables.proofs.ShapeLaws.{and-iff, sized-facts, facts-sized}
+use Rattle.asking.proofs.AskLaws.{asked-at, admitted, findingAt, find-at, find-refused}
+use Rattle.tables.proofs.FindingLaws.{finding-none, finding-dispute, finding-bad}
 use Rattle.lane.proofs.ByteLaws.{joined-length}
 
 module _ (n e : ℕ) (rule : ℕ → ℕ) where
@@ -61,22 +63,28 @@ module _ (n m : ℕ) (t : Tables) where
       })
 
   module _ (c i : ℕ) where
-    pub packed-at : {k : Kind} {j : Mark} → asked (shaped-bytes n m t) (kindBelow n c) (markBelow m i) ≡ Asked.At k j
-        → findPacked n m t c i ≡ packed (answered n m (spelled t) (k .0) (j .0))
+    pub packed-at : {k : Kind} {j : Mark} → asked (askedKind (shaped-bytes n m t) (kindBelow n c)) (markBelow m i) ≡ Asked.At k j
+        → findPacked n m t c i ≡ packed (findingAt n m (spelled t) (k .0) (j .0))
     unfolding findPacked
     packed-at {k} {j} e =
         let is = asked-at (shaped-bytes n m t) n m c i e .is-shaped in
-        let same : asked (shaped n m (spelled t)) (kindBelow n c) (markBelow m i) ≡ Asked.At k j = rw (spelled-shape is) (rw is at e) in
+        let same : asked (askedKind (shaped n m (spelled t)) (kindBelow n c)) (markBelow m i) ≡ Asked.At k j = rw (spelled-shape is) (rw is at e) in
         rw (is, findPacked) (ap packed (find-at n m (spelled t) c i same))
 
-    pub packed-refused : {why : Refusal} → asked (shaped-bytes n m t) (kindBelow n c) (markBelow m i) ≡ Asked.Refused why
+    pub bytes-within : {k : Kind} {j : Mark} → asked (askedKind (shaped-bytes n m t) (kindBelow n c)) (markBelow m i) ≡ Asked.At k j
+        → Within n m (words16 (t .rules)) (words16 (t .entries)) k j
+    bytes-within {k} {j} e =
+        let is = asked-at (shaped-bytes n m t) n m c i e .is-shaped in
+        admitted n m (spelled t) c i {k = k} {j = j} (rw (spelled-shape is) (rw is at e)) .1
+
+    pub packed-refused : {why : Refusal} → asked (askedKind (shaped-bytes n m t) (kindBelow n c)) (markBelow m i) ≡ Asked.Refused why
         → findPacked n m t c i ≡ refusalNumber why
     unfolding findPacked
     packed-refused {why} e = go (shaped-bytes n m t) refl e
       where
-        go : (b : Bool) → shaped-bytes n m t ≡ b → asked b (kindBelow n c) (markBelow m i) ≡ Asked.Refused why
+        go : (b : Bool) → shaped-bytes n m t ≡ b → asked (askedKind b (kindBelow n c)) (markBelow m i) ≡ Asked.Refused why
             → findPacked n m t c i ≡ refusalNumber why
         go false is e = let w : Refusal.Shape ≡ why = cc in rw (is, findPacked, ← w) refl
         go true is e =
-            let same : asked (shaped n m (spelled t)) (kindBelow n c) (markBelow m i) ≡ Asked.Refused why = rw (spelled-shape is) e in
+            let same : asked (askedKind (shaped n m (spelled t)) (kindBelow n c)) (markBelow m i) ≡ Asked.Refused why = rw (spelled-shape is) e in
             rw (is, findPacked) (ap packed (find-refused n m (spelled t) c i same))

@@ -1,11 +1,11 @@
 // The find that line controllers written in C put to us.
+use asking::Asked;
 use inheritance::Kind;
 use inheritance::Mark;
-use tables::Asked;
 ghost use mathlib.Core.Path.{_≡_};
 ghost use Prim.Native.Nat.{_+_, _*_, _<_};
 ghost use lib.ListN.{length, getD};
-ghost use Rattle.tables.specs.Ask.{Within};
+ghost use Rattle.asking.specs.Ask.{Within};
 ghost use Rattle.tables.specs.Calls.{findingOf};
 ghost use Rattle.tables.specs.Controller.{words16, packed, findPacked};
 ghost use Rattle.tables.specs.Tables.{lent};
@@ -23,7 +23,7 @@ fn word(bytes: &[u8], i: usize) -> u16
 // The packed answer at a kind and a mark of the book. The entry is not decoded, since a packed answer has it as its upper half;
 // its tests are those of document 01. None and a dispute are packed alike, so that which of the two it is costs no guess.
 fn answer(n: u16, m: u16, rules: &[u8], entries: &[u8], k: Kind, j: Mark) -> u32
-    requires { ⌜ Within 2 n m (length (now rules)) (length (now entries)) k j ⌝ }
+    requires { ⌜ Within n m (words16 (now rules)) (words16 (now entries)) k j ⌝ }
     ensures { λ r. ⌜ r ≡ packed (findingOf n (λ o. getD (words16 (now (rules .entry))) (o * m + j .0) 0) (getD (words16 (now (entries .entry))) (k .0 * m + j .0) 0)) ⌝ }
 {
     let entry = word(entries, tables::place(k, j, m));
@@ -56,17 +56,8 @@ pub extern "C" fn lane_find(
 ) -> u32
     ensures { λ r. ⌜ r ≡ findPacked n m (lent (now (links .entry)) (now (rules .entry)) (now (entries .entry)) (now (tally .entry))) kind mark ⌝ }
 {
-    let shaped = tables::shape(
-        2,
-        4,
-        n,
-        m,
-        links.len(),
-        rules.len(),
-        entries.len(),
-        tally.len(),
-    );
-    match tables::ask(shaped, n, m, Kind(kind), Mark(mark)) {
+    let shaped = asking::shape_bytes(n, m, links, rules, entries, tally);
+    match asking::ask(shaped, n, m, Kind(kind), Mark(mark)) {
         Asked::Refused(why) => why.number() as u32,
         Asked::At(k, j) => answer(n, m, rules, entries, k, j),
     }

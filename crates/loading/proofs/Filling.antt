@@ -6,7 +6,7 @@
 --     row-within        the bytes of a row are there
 -- Assumes nothing.
 use mathlib.Core.Path.{_≡_, refl, sym, ap₂, _∙_}
-use mathlib.Core.Bool.{Bool, true, false, _&&_, _||_}
+use mathlib.Core.Bool.{Bool, true, false, _&&_, _||_, or-false, and-false, and-true, and-eq-true-iff}
 use mathlib.Core.List.{List}
 use Prim.Native.Nat.{ℕ, _+_, _*_, _<_, _≤_, zero-le}
 use native.Mathlib.Nat.{suc-mul, mul-le-mul-right}
@@ -16,7 +16,7 @@ use lib.Dec.{eqb, ltb}
 use lib.ListN.{getD}
 use Rattle.relation.specs.Bit.{Blank, Added}
 use Rattle.loading.specs.Loaded.{link, Loaded, Filled, rows-before, before}
-use Rattle.relation.proofs.Bools.{or-false, and-false, and-true, both-true, both-eqb, ltb-more}
+use Rattle.relation.proofs.Bools.{both-eqb, ltb-more}
 
 -- ---- tests
 
@@ -58,7 +58,7 @@ link-not n links c p off = rw (ne-eqb _ 1 off) (simp and-false)
 
 link-within : (n : ℕ) (links : List ℕ) (c p : ℕ) → link n links c p ≡ true → p < n
 unfolding link
-link-within n links c p e = ltb-true p n (both-true (ltb p n) _ (both-true (ltb c n) _ e .1) .0)
+link-within n links c p e = ltb-true p n (and-eq-true-iff (ltb p n) _ .0 (and-eq-true-iff (ltb c n) _ .0 e .1) .0)
 
 same-link : (n : ℕ) (links : List ℕ) (c p d q : ℕ) → (eqb d c && eqb q p) ≡ true → link n links d q ≡ link n links c p
 same-link n links c p d q e = let h = both-eqb d c q p e in ap₂ (link n links) (h .0) (h .1)

@@ -7,7 +7,7 @@
 -- Assumes nothing.
 use mathlib.Core.Path.{_≡_, refl, sym, ap, ap₂, _∙_}
 use mathlib.Core.Logic.{_≢_, by-cases}
-use mathlib.Core.Bool.{Bool, true, false, _&&_, _||_}
+use mathlib.Core.Bool.{Bool, true, false, _&&_, _||_, or-false, and-false, and-true}
 use mathlib.Core.List.{List}
 use Prim.Native.Nat.{ℕ, zero, suc, _+_, _-_, _*_, _/_, _%_, _^_, _<_, _≤_, min, zero-le}
 use native.Mathlib.Nat.{lt-of-lt-of-le, le-refl}
@@ -21,7 +21,6 @@ use lib.Seq.{getD-set-same, getD-set-other}
 use lib.Pow.{pow-mono, shl-lt, shl-exact}
 use Rattle.relation.specs.Bit.{on, bit, Octet}
 use Rattle.loading.specs.Loaded.{link, one-at, Filled, Flag, Flags, Tested, Spaced, Word, rows-before, before}
-use Rattle.relation.proofs.Bools.{or-false, and-false, and-true}
 use Rattle.relation.proofs.BitLaws.{on-or, on-and, on-power}
 use Rattle.relation.proofs.Zeros.{on-zero}
 use Rattle.loading.proofs.Filling.{row-within}

@@ -1,38 +1,26 @@
 -- The marks, a list of 0 and 1: what a store does to them, how many kinds they leave unvisited, and a list with none.
 --     visited-or-not     a kind is visited or not
---     set-at             what stands at j after a store at k
 --     in-list, marked    k is within the list of a walk that is ready to start at k, and with k marked the list is still one of marks
 --     fewer, fewer-set   how many kinds are unvisited: no more as marks grow, fewer where one is marked
 --     ready-cleared      a walk may start from any kind in a list of zeros
 -- Assumes nothing.
-use mathlib.Core.Path.{_≡_, refl, ap, _∙_}
-use mathlib.Core.Logic.{_≢_, _⊎_, inl, inr, ⊎-elim}
+use mathlib.Core.Path.{_≡_, refl, _∙_}
+use mathlib.Core.Logic.{_⊎_, inl, inr, ⊎-elim}
 use mathlib.Core.List.{List, [], _∷_}
 use Prim.Native.Nat.{ℕ, zero, suc, _<_, _≤_}
-use native.Mathlib.Decide.{ℕ-discrete}
 use native.Mathlib.Omega.{arith}
 use lib.ListN.{length, getD, set, replicate, length-replicate}
-use lib.Seq.{getD-set-same, getD-set-other}
+use Rattle.relation.proofs.Stores.{set-at}
 use Rattle.relation.proofs.Zeros.{getD-zeros}
 use Rattle.propagation.specs.Spread.{Visited, Unvisited, Marks, unvisited, Ready}
 
-bit : (x : ℕ) → x < 2 → (x ≡ 1) ⊎ (x ≡ 0)
-bit zero h = inr refl
-bit (suc zero) h = inl refl
-bit (suc (suc x)) h = absurd (omega arith)
+one-or-zero : (x : ℕ) → x < 2 → (x ≡ 1) ⊎ (x ≡ 0)
+one-or-zero zero h = inr refl
+one-or-zero (suc zero) h = inl refl
+one-or-zero (suc (suc x)) h = absurd (omega arith)
 
 pub visited-or-not : (v : List ℕ) → Marks v → (j : ℕ) → Visited v j ⊎ Unvisited v j
-visited-or-not v marks j = bit (getD v j 0) (marks j)
-
-abbrev pub SetAt : List ℕ → ℕ → ℕ → ℕ → Type 0
-SetAt v k a j = ((j ≡ k) × (getD (set v k a) j 0 ≡ a)) ⊎ ((j ≢ k) × (getD (set v k a) j 0 ≡ getD v j 0))
-
-pub set-at : (v : List ℕ) (k a : ℕ) → k < length v → (j : ℕ) → SetAt v k a j
-set-at v k a lt j = go (ℕ-discrete j k)
-  where
-    go : Dec (j ≡ k) → SetAt v k a j
-    go (yes e) = inl (e, ap (λ (i : ℕ). getD (set v k a) i 0) e ∙ getD-set-same v k a 0 lt)
-    go (no ne) = inr (ne, getD-set-other v k j a 0 ne)
+visited-or-not v marks j = one-or-zero (getD v j 0) (marks j)
 
 pub in-list : {n k : ℕ} {v : List ℕ} → Ready n k v → k < length v
 in-list r = omega (arith, r .size, r .room, r .kind-in)

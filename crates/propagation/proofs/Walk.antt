@@ -1,4 +1,4 @@
--- The walk down the links: what grows, step by step.
+-- The walk: what grows, step by step. A child of k is a kind that the walk goes on to from k.
 --     no-walk                              a child that the code's test leaves out is visited already or is a stop
 --     below-trans                          what is below a kind below k is below k
 --     grown-none, grown-more               with no step nothing grew; a walk from a kind below k carries on what grew below k
@@ -25,8 +25,9 @@ use lib.Seq.{getD-set-same}
 use Rattle.inheritance.specs.Lookup.{Below, start, down}
 use Rattle.relation.specs.First.{First}
 use Rattle.relation.proofs.Bools.{eqb-both}
+use Rattle.relation.proofs.Stores.{SetAt, set-at}
 use Rattle.propagation.specs.Spread.{stop, Visited, Unvisited, Marks, unvisited, Ready, Grown, Walked, Touched}
-use Rattle.propagation.proofs.Marks.{visited-or-not, SetAt, set-at, in-list, marked, fewer, fewer-set}
+use Rattle.propagation.proofs.Marks.{visited-or-not, in-list, marked, fewer, fewer-set}
 
 pub no-walk : (visited stops : List ℕ) (c : ℕ) → (eqb (getD visited c 0) 0 && eqb (getD stops c 0) 0) ≡ false
     → stop stops c ≡ false → Unvisited visited c → ⊥

@@ -1,5 +1,5 @@
--- The walk down the links: what `spread` asks and ensures, and what `touched` ensures.
---     under, stop     the links and the stops, as tests over what the code reads
+-- The walk: what `spread` asks and ensures, and what `touched` ensures.
+--     under, stop     the kinds that the walk goes on to from a kind, and the stops, as tests over what the code reads
 --     Marks           a list of bytes that says of each kind whether it is visited: 1, or not: 0
 --     unvisited       how many kinds are not visited: the measure of the walk
 --     Ready           what a walk from k asks
@@ -15,9 +15,9 @@ use lib.ListN.{length, getD}
 use Rattle.inheritance.specs.Lookup.{Below}
 use Rattle.relation.specs.Bit.{bit}
 
--- p is a direct parent of c: row p has the children of p
+-- the walk goes on from k to c: row k has c
 abbrev pub under : List ℕ → ℕ → ℕ → Bool
-under children c p = bit children p c
+under onward c k = bit onward k c
 
 -- the walk does not come to c
 abbrev pub stop : List ℕ → ℕ → Bool
@@ -44,7 +44,7 @@ pub record Ready (n k : ℕ) (v : List ℕ) : Type 0 where
   pub marks : Marks v
   pub fresh : Unvisited v k
 
--- from v to w only kinds below k came to be visited, and with each of them its children that are no stop
+-- from v to w only kinds below k came to be visited, and with each of them those onward from it that are no stop
 pub record Grown (n : ℕ) (up : ℕ → ℕ → Bool) (own : ℕ → Bool) (k : ℕ) (v w : List ℕ) : Type 0 where
   pub size : length w ≡ length v
   pub marks : Marks w

@@ -2,13 +2,13 @@
 --     on-or, on-and, on-without       bits added to a word; those of two words; bits taken out of one
 --     or-into, without-into           the word i of the list, with v's bits added; without v's bits
 --     bit-or-into, bit-without-into   what a bit is after it
---     bit-mark, bit-unmark            .. after one bit is added, or taken out: kind p, in row c
+--     marked, unmarked                one bit is added, or taken out: kind p, in row c
 --     bit-join                        .. after a row is added, word by word: row k to row c
 --     and-one                         a word's lowest bit, as code reads it
 -- Assumes nothing.
 use mathlib.Core.Path.{_≡_, refl, sym, ap, ap₂, _∙_}
 use mathlib.Core.Logic.{_≢_}
-use mathlib.Core.Bool.{Bool, true, false, _&&_, _||_, not, xor}
+use mathlib.Core.Bool.{Bool, true, false, _&&_, _||_, not, xor, or-false, and-true}
 use mathlib.Core.List.{List}
 use Prim.Native.Nat.{ℕ, zero, suc, _+_, _-_, _*_, _/_, _%_, _^_, _<_, _≤_, max, min}
 use native.Mathlib.Nat.{mul-add-mod-self-right, mul-mod-left, mod-eq-of-lt, div-eq-of-lt, div-self, pow-suc, one-mul, add-zero}
@@ -19,8 +19,9 @@ use lib.ListN.{getD, set, length, length-set}
 use lib.Seq.{getD-set-same, getD-set-other}
 use lib.Bits.{bitAnd, bitOr, bitXor, differ, or-step, or-shr, and-step, and-shr, xor-step, xor-shr, and-mask}
 use lib.Pow.{pow-pos, pow-lt, pow-add, shl-shr}
-use Rattle.relation.specs.Bit.{on, bit}
-use Rattle.relation.proofs.Bools.{or-false, and-true, same-bool, same-test, both-eqb, eqb-both}
+use Rattle.relation.specs.Bit.{on, bit, Added, Removed}
+use Rattle.inheritance.proofs.Bools.{same-bool}
+use Rattle.relation.proofs.Bools.{same-test, both-eqb, eqb-both}
 
 -- ---- one word
 
@@ -167,16 +168,18 @@ at-place c p d q hp hq =
     ∙ ap (λ (t : Bool). eqb (2 * d + q / 64) (word-of c p) && t) (on-power (p % 64) (q % 64))
     ∙ same-place c p d q hp hq
 
-module _ (rows : List ℕ) (c p d q : ℕ) (l : length rows ≡ 256) (hc : c < 128) (hp : p < 128) (hq : q < 128) where
-  pub bit-mark : bit (or-into rows (word-of c p) (one-of p)) d q ≡ (bit rows d q || (eqb d c && eqb q p))
-  bit-mark =
-      bit-or-into rows (word-of c p) (one-of p) d q (omega arith)
-      ∙ ap (λ (t : Bool). bit rows d q || t) (at-place c p d q hp hq)
+module _ (rows : List ℕ) (c p : ℕ) (l : length rows ≡ 256) (hc : c < 128) (hp : p < 128) where
+  pub marked : Added rows (or-into rows (word-of c p) (one-of p)) (λ d q. eqb d c && eqb q p)
+  marked = record {
+    long = length-set rows _ _ ∙ l;
+    bits = λ d q h. bit-or-into rows (word-of c p) (one-of p) d q (omega arith) ∙ ap (λ (t : Bool). bit rows d q || t) (at-place c p d q hp h);
+  }
 
-  pub bit-unmark : bit (without-into rows (word-of c p) (one-of p)) d q ≡ (bit rows d q && not (eqb d c && eqb q p))
-  bit-unmark =
-      bit-without-into rows (word-of c p) (one-of p) d q (omega arith)
-      ∙ ap (λ (t : Bool). bit rows d q && not t) (at-place c p d q hp hq)
+  pub unmarked : Removed rows (without-into rows (word-of c p) (one-of p)) (λ d q. eqb d c && eqb q p)
+  unmarked = record {
+    long = length-set rows _ _ ∙ l;
+    bits = λ d q h. bit-without-into rows (word-of c p) (one-of p) d q (omega arith) ∙ ap (λ (t : Bool). bit rows d q && not t) (at-place c p d q hp h);
+  }
 
 -- word j of row d, after words 0 and 1 of row k are added to those of row c
 pub two-words : (t : Bool) (rows : List ℕ) (c k d j r : ℕ) → j < 2

@@ -1,48 +1,24 @@
 -- Laws of truth values and of the tests on numbers.
---     or-false, and-false, and-true     a truth value beside a constant
---     same-bool                         two truth values are equal where each follows from the other
---     both-true                         the parts of a conjunction that is true
 --     same-test                         two tests are equal where each equation follows from the other
 --     both-eqb, eqb-both                two tests of equality at once
 --     ltb-more                          what is below b + 1
 --     one-more                          what passes below b, and what passes at b
 -- Assumes nothing.
-use mathlib.Core.Path.{_≡_, refl, sym}
-use mathlib.Core.Bool.{Bool, true, false, _&&_, _||_, false≢true}
+use mathlib.Core.Path.{_≡_, refl}
+use mathlib.Core.Bool.{Bool, true, false, _&&_, _||_, and-eq-true-iff, or-false}
 use Prim.Native.Nat.{ℕ, _+_}
 use native.Mathlib.Nat.{le-refl}
 use native.Mathlib.Omega.{arith}
 use borrow.Author.Tests.{eq-eqb, eqb-true, eqb-false, lt-ltb, le-ltb, ltb-true}
 use lib.Dec.{eqb, ltb}
-
-pub or-false : (b : Bool) → (b || false) ≡ b
-or-false true = refl
-or-false false = refl
-
-pub and-false : (b : Bool) → (b && false) ≡ false
-and-false true = refl
-and-false false = refl
-
-pub and-true : (b : Bool) → (b && true) ≡ b
-and-true true = refl
-and-true false = refl
-
-pub same-bool : (s t : Bool) → (s ≡ true → t ≡ true) → (t ≡ true → s ≡ true) → s ≡ t
-same-bool true true there back = refl
-same-bool true false there back = sym (there refl)
-same-bool false true there back = back refl
-same-bool false false there back = refl
-
-pub both-true : (s t : Bool) → (s && t) ≡ true → (s ≡ true) × (t ≡ true)
-both-true true t e = (refl, e)
-both-true false t e = absurd (false≢true e)
+use Rattle.inheritance.proofs.Bools.{same-bool}
 
 pub same-test : (a b c d : ℕ) → (a ≡ b → c ≡ d) → (c ≡ d → a ≡ b) → eqb a b ≡ eqb c d
 same-test a b c d there back =
     same-bool (eqb a b) (eqb c d) (λ e. eq-eqb c d (there (eqb-true a b e))) (λ e. eq-eqb a b (back (eqb-true c d e)))
 
 pub both-eqb : (a b c d : ℕ) → (eqb a b && eqb c d) ≡ true → (a ≡ b) × (c ≡ d)
-both-eqb a b c d e = let t = both-true (eqb a b) (eqb c d) e in (eqb-true a b (t .0), eqb-true c d (t .1))
+both-eqb a b c d e = let t = and-eq-true-iff (eqb a b) (eqb c d) .0 e in (eqb-true a b (t .0), eqb-true c d (t .1))
 
 pub eqb-both : (a b c d : ℕ) → a ≡ b → c ≡ d → (eqb a b && eqb c d) ≡ true
 eqb-both a b c d p q = rw (eq-eqb a b p) (eq-eqb c d q)

@@ -4,7 +4,7 @@
 --     bit-octet                  what a bit is after an octet is added to a row
 -- Assumes nothing.
 use mathlib.Core.Path.{_≡_, refl, sym, ap, _∙_}
-use mathlib.Core.Bool.{Bool, true, false, _&&_, _||_, true≢false}
+use mathlib.Core.Bool.{Bool, true, false, _&&_, _||_, true≢false, and-false, and-true, and-eq-true-iff}
 use mathlib.Core.List.{List}
 use Prim.Native.Nat.{ℕ, suc, _+_, _-_, _*_, _/_, _%_, _^_, _<_, _≤_, zero-le}
 use native.Mathlib.Nat.{mul-mod-left, div-eq-of-lt, pow-suc, lt-of-lt-of-le, lt-of-not-le, mul-assoc, one-mul, zero-mul}
@@ -16,7 +16,8 @@ use lib.Dec.{eqb, leb}
 use lib.ListN.{length}
 use lib.Pow.{pow-mono, pow-add, shl-shr, shl-exact}
 use Rattle.relation.specs.Bit.{Octet, on, bit}
-use Rattle.relation.proofs.Bools.{and-false, and-true, same-bool, both-true, one-more}
+use Rattle.inheritance.proofs.Bools.{same-bool}
+use Rattle.relation.proofs.Bools.{one-more}
 use Rattle.relation.proofs.BitLaws.{on-or, on-power, or-into, bit-or-into}
 use Rattle.relation.proofs.Zeros.{on-zero}
 use Rattle.relation.proofs.Walking.{on-shifted}
@@ -86,8 +87,8 @@ same-octet c q bits d p hq hb hp = same-bool _ _ there back
     there : (eqb (2 * d + p / 64) (2 * c + q / 8) && (leb (8 * (q % 8)) (p % 64) && on bits (p % 64 - 8 * (q % 8)))) ≡ true
         → (eqb d c && (leb (8 * q) p && on bits (p - 8 * q))) ≡ true
     there e =
-        let (w, r) = both-true (eqb (2 * d + p / 64) (2 * c + q / 8)) _ e in
-        let (l, is) = both-true (leb (8 * (q % 8)) (p % 64)) _ r in
+        let (w, r) = and-eq-true-iff (eqb (2 * d + p / 64) (2 * c + q / 8)) _ .0 e in
+        let (l, is) = and-eq-true-iff (leb (8 * (q % 8)) (p % 64)) _ .0 r in
         let hw = eqb-true (2 * d + p / 64) (2 * c + q / 8) w in
         let hl = leb-true (8 * (q % 8)) (p % 64) l in
         let hk = one-of-eight bits (p % 64 - 8 * (q % 8)) hb is in
@@ -99,8 +100,8 @@ same-octet c q bits d p hq hb hp = same-bool _ _ there back
     back : (eqb d c && (leb (8 * q) p && on bits (p - 8 * q))) ≡ true
         → (eqb (2 * d + p / 64) (2 * c + q / 8) && (leb (8 * (q % 8)) (p % 64) && on bits (p % 64 - 8 * (q % 8)))) ≡ true
     back e =
-        let (w, r) = both-true (eqb d c) _ e in
-        let (l, is) = both-true (leb (8 * q) p) _ r in
+        let (w, r) = and-eq-true-iff (eqb d c) _ .0 e in
+        let (l, is) = and-eq-true-iff (leb (8 * q) p) _ .0 r in
         let hw = eqb-true d c w in
         let hl = leb-true (8 * q) p l in
         let hk = one-of-eight bits (p - 8 * q) hb is in

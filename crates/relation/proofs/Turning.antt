@@ -8,7 +8,7 @@
 -- Assumes nothing.
 use mathlib.Core.Path.{_≡_, refl, sym, ap, _∙_}
 use mathlib.Core.Logic.{by-cases}
-use mathlib.Core.Bool.{Bool, true, false, _&&_, _||_, not}
+use mathlib.Core.Bool.{Bool, true, false, _&&_, _||_, not, or-false, and-false, and-true, and-eq-true-iff}
 use mathlib.Core.List.{List}
 use Prim.Native.Nat.{ℕ, _+_, _-_, _*_, _^_, _<_, _≤_, zero-le}
 use native.Mathlib.Decide.{decLt}
@@ -20,7 +20,7 @@ use lib.Dec.{eqb, ltb, leb}
 use lib.ListN.{getD, length}
 use Rattle.relation.specs.Bit.{on, bit, Blank, Added}
 use Rattle.relation.specs.Turned.{Turned}
-use Rattle.relation.proofs.Bools.{or-false, and-false, and-true, both-true, one-more}
+use Rattle.relation.proofs.Bools.{one-more}
 use Rattle.relation.proofs.Walking.{zeros-first, zeros-lt, lowest-off, bit-low, bit-high}
 use Rattle.relation.proofs.Zeros.{on-zero}
 
@@ -81,7 +81,7 @@ module _ (w from c : ℕ) where
   unfolding word-gone
   word-mark left h a b = record {
     small = omega (arith, and-le-l left (left - 1), a .small);
-    within = λ k is. a .within k (both-true (on left k) (not (eqb k zeros)) (sym (lowest-off left k (a .small) h) ∙ is) .0);
+    within = λ k is. a .within k (and-eq-true-iff (on left k) (not (eqb k zeros)) .0 (sym (lowest-off left k (a .small) h) ∙ is) .0);
     added = added-more (word-gone w from c (bitAnd left (left - 1))) (a .added) b (λ p d.
         more p d (eqb p (from + zeros)) refl
         ∙ ap (λ (t : Bool). eqb d c && (leb from p && (ltb p (from + 64) && (on w (p - from) && not t)))) (sym (lowest-off left (p - from) (a .small) h)));

@@ -6,7 +6,7 @@ ghost use Prim.Native.Nat.{_+_, _-_, _*_, _<_, _≤_};
 ghost use lib.Dec.{eqb, ltb, leb};
 ghost use lib.ListN.{length};
 ghost use Rattle.relation.specs.Bit.{on, bit, Blank, Added, Removed};
-ghost use Rattle.relation.specs.Closed.{Closed, Swept, Gathered};
+ghost use Rattle.relation.specs.Closed.{Closed, Swept, ParentsGathered};
 ghost use Rattle.relation.specs.First.{First};
 ghost use Rattle.relation.specs.Turned.{Turned};
 
@@ -86,7 +86,7 @@ pub fn mark_octet(rows: &mut [u64; 256], c: usize, q: usize, bits: u8)
 // The kinds that are in a row below n are put into row 0 of `parents`.
 fn gather(rows: &[u64; 256], n: usize, parents: &mut [u64; 256])
     requires { ⌜ (n ≤ 128) × (length (now parents) ≡ 256) ⌝ }
-    ensures { λ _. ⌜ Gathered n (now (rows .entry)) (now (parents .exit)) ⌝ }
+    ensures { λ _. ⌜ ParentsGathered n (now (rows .entry)) (now (parents .exit)) ⌝ }
 {
     let mut low = 0u64;
     let mut high = 0u64;

@@ -1,7 +1,7 @@
 -- How the text program cuts its input into lines and gathers its answers.
 --     Kept       what is carried and what waits lie within their buffers
 --     LineEnd    the first line feed from a place on
---     Added      a part of a line is added to what is carried of it, as far as there is room
+--     Extended   a part of a line is added to what is carried of it, as far as there is room
 --     Put        a line and a line feed are put into a buffer
 -- Assumes nothing.
 use mathlib.Core.Path.{_≡_}
@@ -23,7 +23,7 @@ pub record LineEnd (block : List ℕ) (from end : ℕ) : Type 0 where
   pub none : (k : ℕ) → k < end → from ≤ k → getD block k 0 ≡ 10 → ⊥
   pub here : end < length block → getD block end 0 ≡ 10
 
-pub record Added (part before : List ℕ) (carried more : ℕ) (after : List ℕ) : Type 0 where
+pub record Extended (part before : List ℕ) (carried more : ℕ) (after : List ℕ) : Type 0 where
   pub long : more ≡ carried + min (length part) (length before - carried)
   pub whole : after ≡ paste before carried part (min (length part) (length before - carried))
 

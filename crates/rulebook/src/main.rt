@@ -2,13 +2,14 @@
 // It reads and writes in large blocks. What has been answered is written before the next read, so nobody waits for an answer.
 use libc::STDIN_FILENO;
 use libc::STDOUT_FILENO;
+use tables::TALLIES;
 ghost use mathlib.Core.Path.{_≡_};
 ghost use Prim.Native.Nat.{_+_, _≤_, _<_, min};
 ghost use lib.ListN.{length};
 ghost use lib.Seq.{paste};
 ghost use Rattle.tables.specs.Tables.{lent};
 ghost use Rattle.session.specs.Parts.{Room};
-ghost use Rattle.rulebook.specs.Blocks.{Kept, LineEnd, Added, Put};
+ghost use Rattle.rulebook.specs.Blocks.{Kept, LineEnd, Extended, Put};
 
 // What is kept from line to line beside the tables and the buffers: the size of the book, the number of bytes carried of a line whose end
 // has not come yet, the number of bytes of answers that wait, whether more input may come, and whether every write so far was taken.
@@ -58,7 +59,7 @@ fn least(a: usize, b: usize) -> usize
 // Adds a part of a line to what is carried of it. Of a long line only the start is kept: 65 bytes are no form already.
 fn add(part: &[u8], carry: &mut [u8], carried: usize) -> usize
     requires { ⌜ carried ≤ length (now carry) ⌝ }
-    ensures { λ r. ⌜ Added (now (part .entry)) (now (carry .entry)) carried r (now (carry .exit)) ⌝ }
+    ensures { λ r. ⌜ Extended (now (part .entry)) (now (carry .entry)) carried r (now (carry .exit)) ⌝ }
 {
     let more = least(part.len(), carry.len() - carried);
     copy(&part[..more], carry, carried);
@@ -305,7 +306,7 @@ fn main() {
     let mut links = [0u8; 16384];
     let mut rules = [0u16; 8192];
     let mut entries = [0u16; 8192];
-    let mut tally = [0u32; 1];
+    let mut tally = [0u32; TALLIES];
     let mut carry = [0u8; 65];
     let mut block = [0u8; 65536];
     let mut out = [0u8; 65536];

@@ -1,4 +1,4 @@
 pub mod Cases
-pub mod OpeningLaws
 pub mod PartLaws
 pub mod SessionLaws
+pub mod TurnLaws

@@ -1,6 +1,6 @@
 -- A session of lines, and one that is fed block by block, each block ending in a line feed.
 --     begins           before the first line the program's tables hold the book that a session starts with
---     after            the book after some lines
+--     bookAfter        the book after some lines
 --     answers-apart    lines, and then more lines
 --     blocks           what is printed for a block and the rest of the input: the block's answers, then the rest's from the book that the block leaves
 -- Assumes nothing.
@@ -17,12 +17,12 @@ use Rattle.session.specs.Session.{start, answers, linesFrom, linesOf}
 pub begins : (links rules entries : List ℕ) → bookIn 0 0 (lent links rules entries (0 ∷ [])) ≡ start
 begins links rules entries = refl
 
-unfoldable pub after : Book → List (List ℕ) → Book
-after b [] = b
-after b (line ∷ lines) = after (lineOf b line .book) lines
+unfoldable pub bookAfter : Book → List (List ℕ) → Book
+bookAfter b [] = b
+bookAfter b (line ∷ lines) = bookAfter (lineOf b line .book) lines
 
-pub answers-apart : (b : Book) (lines more : List (List ℕ)) → answers b (lines ++ more) ≡ answers b lines ++ answers (after b lines) more
-unfolding answers after
+pub answers-apart : (b : Book) (lines more : List (List ℕ)) → answers b (lines ++ more) ≡ answers b lines ++ answers (bookAfter b lines) more
+unfolding answers bookAfter
 answers-apart b [] more = refl
 answers-apart b (line ∷ lines) more = ap (λ (rest : List (List ℕ)). lineOf b line .printed ∷ rest) (answers-apart (lineOf b line .book) lines more)
 
@@ -56,5 +56,5 @@ lines-apart partial (b ∷ block) rest =
 
 pub blocks : (b : Book) (block rest : List ℕ)
     → answers b (linesOf ((block ++ (10 ∷ [])) ++ rest))
-    ≡ answers b (linesOf (block ++ (10 ∷ []))) ++ answers (after b (linesOf (block ++ (10 ∷ [])))) (linesOf rest)
+    ≡ answers b (linesOf (block ++ (10 ∷ []))) ++ answers (bookAfter b (linesOf (block ++ (10 ∷ [])))) (linesOf rest)
 blocks b block rest = ap (answers b) (lines-apart [] block rest) ∙ answers-apart b (linesOf (block ++ (10 ∷ []))) (linesOf rest)

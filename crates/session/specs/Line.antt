@@ -1,16 +1,20 @@
 -- One line of the text program, from bytes to bytes, through the definitions of the forms, the calls and the answers.
 --     Book       the program's book: its size and the tables that it lends; before an accepted open, n and m are 0
---     turnOf     what a form does: the book after it, and the line that is printed
+--     callFor    the call that a form asks for
+--     carries    what a call does: the book after it, and the line that is printed
+--     turnOf     what a form does
 --     lineOf     the same of a line of bytes, which comes without its line feed
 -- Assumes nothing.
+use mathlib.Core.Bool.{Bool, true, false}
 use mathlib.Core.List.{List}
 use Prim.Native.Nat.{ℕ}
 use Rattle.tables.specs.Reply.{Reply, refused, given}
 use Rattle.tables.specs.Tables.{Tables}
 use Rattle.tables.specs.Calls as calls
 use Rattle.tables.specs.Calls.{Outcome, zeros}
-use Rattle.text.specs.Answers.{printedRefused, printedOpened, printedEdited, printedFound}
-use Rattle.text.specs.Forms.{Form, openBook, addRule, takeRule, addLink, takeLink, find, bad, formOf}
+use Rattle.tables.specs.Books.{Edit, Request, Call, Result, outcome}
+use Rattle.answers.specs.Answers.{printedRefused, printedOpened, printedAnswer}
+use Rattle.forms.specs.Forms.{Form, openBook, addRule, takeRule, addLink, takeLink, find, bad, formOf}
 
 pub record Book : Type 0 where
   pub n : ℕ
@@ -21,26 +25,56 @@ pub record Turn : Type 0 where
   pub book : Book
   pub printed : List ℕ
 
+abbrev pub asks : (n m : ℕ) → Request → Call
+asks n m request = record { n = n; m = m; request = request }
+
+-- the call that a form asks for on a book of n kinds and m marks: open names its own size, every other form has the book's
+abbrev pub callFor : (n m : ℕ) → Form → Reply Call
+callFor n m (openBook k j) = given (asks k j Request.openBook)
+callFor n m (addRule kind mark handling) = given (asks n m (Request.edit (Edit.addRule kind mark handling)))
+callFor n m (takeRule kind mark) = given (asks n m (Request.edit (Edit.takeRule kind mark)))
+callFor n m (addLink child parent) = given (asks n m (Request.edit (Edit.addLink child parent)))
+callFor n m (takeLink child parent) = given (asks n m (Request.edit (Edit.takeLink child parent)))
+callFor n m (find kind mark) = given (asks n m (Request.find kind mark))
+callFor n m bad = refused 12
+
+-- a request for a new book
+abbrev pub fresh : Request → Bool
+fresh Request.openBook = true
+fresh (Request.edit e) = false
+fresh (Request.find kind mark) = false
+fresh (Request.parties kind mark) = false
+fresh Request.inspect = false
+fresh Request.refresh = false
+
 -- the book after open: an accepted one starts a new book, a refused one keeps the old
 abbrev pub openedBook : Book → (n m : ℕ) → Reply (Unit {0}) → Tables → Book
 openedBook b n m (given _) t = record { n = n; m = m; tables = t }
 openedBook b n m (refused number) t = b
 
--- open is lent the leading parts of the program's tables, which have the lengths asked; what they hold plays no part
 abbrev pub opens : Book → (n m : ℕ) → Outcome (Unit {0}) → Turn
 opens b n m o = record { book = openedBook b n m (o .reply) (o .tables); printed = printedOpened n m (o .reply) }
 
-abbrev pub edits : Book → Outcome ℕ → Turn
-edits b o = record { book = record { n = b .n; m = b .m; tables = o .tables }; printed = printedEdited (o .reply) }
+-- any other call leaves its tables in the book
+abbrev pub leavesIn : Book → Result → Turn
+leavesIn b r = record { book = record { n = b .n; m = b .m; tables = r .tables }; printed = printedAnswer (b .n) (b .m) (r .answer) }
+
+-- open is lent tables of the size that it names, and what they hold plays no part; any other call is lent the book's. No form asks for parties, whose
+-- answer is left open, and nothing is printed of it
+abbrev pub carriesBy : Bool → Book → Call → Turn
+carriesBy true b call = opens b (call .n) (call .m) (calls.openBook (call .n) (call .m) (zeros (call .n) (call .m)))
+carriesBy false b call = leavesIn b (outcome (refused 0) call (b .tables))
+
+unfoldable pub carries : Book → Call → Turn
+carries b call = carriesBy (fresh (call .request)) b call
+
+-- .. where there is one
+abbrev pub carriesOr : Book → Reply Call → Turn
+carriesOr b (given call) = carries b call
+carriesOr b (refused number) = record { book = b; printed = printedRefused number }
 
 unfoldable pub turnOf : Book → Form → Turn
-turnOf b (openBook n m) = opens b n m (calls.openBook n m (zeros n m))
-turnOf b (addRule kind mark handling) = edits b (calls.addRule (b .n) (b .m) (b .tables) kind mark handling)
-turnOf b (takeRule kind mark) = edits b (calls.takeRule (b .n) (b .m) (b .tables) kind mark)
-turnOf b (addLink child parent) = edits b (calls.addLink (b .n) (b .m) (b .tables) child parent)
-turnOf b (takeLink child parent) = edits b (calls.takeLink (b .n) (b .m) (b .tables) child parent)
-turnOf b (find kind mark) = record { book = b; printed = printedFound (calls.find (b .n) (b .m) (b .tables) kind mark .reply) }
-turnOf b bad = record { book = b; printed = printedRefused 12 }
+turnOf b form = carriesOr b (callFor (b .n) (b .m) form)
 
 unfoldable pub lineOf : Book → List ℕ → Turn
 lineOf b line = turnOf b (formOf line)

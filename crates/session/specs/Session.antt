@@ -8,11 +8,12 @@ use mathlib.Core.Bool.{true, false}
 use mathlib.Core.List.{List, [], _∷_, _++_}
 use Prim.Native.Nat.{ℕ}
 use lib.Dec.{eqb}
-use Rattle.tables.specs.Tables.{lent}
+use lib.ListN.{replicate}
+use Rattle.tables.specs.Tables.{lent, tallies}
 use Rattle.session.specs.Line.{Book, lineOf}
 
 abbrev pub start : Book
-start = record { n = 0; m = 0; tables = lent [] [] [] (0 ∷ []) }
+start = record { n = 0; m = 0; tables = lent [] [] [] (replicate tallies 0) }
 
 unfoldable pub answers : Book → List (List ℕ) → List (List ℕ)
 answers b [] = []

@@ -1,21 +1,53 @@
-// One line of the text program: it is read, its call is put to the leading parts of the program's tables, and the answer is printed.
-use inheritance::Kind;
-use inheritance::Mark;
+// One line of the text program: its form is made a call, the call is carried out on the leading parts of the program's tables, and the answer is printed.
+use forms::Form;
+use tables::Answer;
+use tables::Call;
+use tables::Edit;
 use tables::Opened;
 use tables::Refusal;
-use text::Form;
+use tables::Request;
 ghost use mathlib.Core.Path.{_≡_};
 ghost use Prim.Native.Nat.{_*_, min};
+ghost use Rattle.tables.specs.Books.{callOf, answered};
 ghost use Rattle.tables.specs.Tables.{lent};
-ghost use Rattle.text.specs.Forms.{openBook, addRule, takeRule, addLink, takeLink, find};
-ghost use Rattle.session.specs.Line.{turnOf, lineOf};
-ghost use Rattle.session.specs.Parts.{Room, Answered};
+ghost use Rattle.forms.specs.Forms.{formed};
+ghost use Rattle.session.specs.Line.{callFor, carries, lineOf};
+ghost use Rattle.session.specs.Parts.{Room, OfBook, OfBookIf, wanted, sizeAfter, Answered};
 
 // The size of the book after a line, and how many bytes its answer has.
 pub struct Turned {
     pub n: u16,
     pub m: u16,
     pub length: usize,
+}
+
+// The call that a form asks for, or that a line has no form.
+enum Wanted {
+    Call(Call),
+    Bad,
+}
+
+// The call that a form asks for on a book of n kinds and m marks.
+fn call_for(form: Form, n: u16, m: u16) -> Wanted
+    ensures { λ r. ⌜ (wanted r ≡ callFor n m (formed form)) × OfBookIf n m (wanted r) ⌝ }
+{
+    let request = match form {
+        Form::Open(k, j) => {
+            let open = Call {
+                n: k,
+                m: j,
+                request: Request::Open,
+            };
+            return Wanted::Call(open);
+        }
+        Form::AddRule(k, j, h) => Request::Edit(Edit::AddRule(k, j, h)),
+        Form::TakeRule(k, j) => Request::Edit(Edit::TakeRule(k, j)),
+        Form::AddLink(c, p) => Request::Edit(Edit::AddLink(c, p)),
+        Form::TakeLink(c, p) => Request::Edit(Edit::TakeLink(c, p)),
+        Form::Find(k, j) => Request::Find(k, j),
+        Form::Bad => return Wanted::Bad,
+    };
+    Wanted::Call(Call { n, m, request })
 }
 
 // How many places of a table are lent, where a book has a × b of them.
@@ -26,215 +58,56 @@ fn leading(a: u16, b: u16, whole: usize) -> usize
     if asked < whole { asked } else { whole }
 }
 
-// A line that opens a book. Where open refuses, the old book is kept.
-fn open(
+// The size of the book after a call, by its answer: an accepted open has the size that it names taken over.
+fn size_after(answer: Answer, call: Call, n: u16, m: u16, length: usize) -> Turned
+    ensures { λ r. ⌜ r ≡ sizeAfter n m (callOf call) (answered answer) length ⌝ }
+{
+    let kept = Turned { n, m, length };
+    match answer {
+        Answer::Opened(reply) => match reply {
+            Opened::Done => Turned {
+                n: call.n,
+                m: call.m,
+                length,
+            },
+            Opened::Refused(_) => kept,
+        },
+        Answer::Edited(_) => kept,
+        Answer::Found(_) => kept,
+        Answer::Paired(_) => kept,
+        Answer::Inspected(_) => kept,
+    }
+}
+
+// Carries a call out on the leading parts of the tables, and prints its answer.
+fn carry(
+    call: Call,
     n: u16,
     m: u16,
     links: &mut [u8],
     rules: &mut [u16],
     entries: &mut [u16],
     tally: &mut [u32],
-    kinds: u16,
-    marks: u16,
     out: &mut [u8; 64],
 ) -> Turned
     requires { ⌜ Room (lent (now links) (now rules) (now entries) (now tally)) ⌝ }
-    ensures { λ r. ⌜ Answered (λ b. turnOf b (openBook kinds marks)) n m
+    requires { ⌜ OfBook n m (callOf call) ⌝ }
+    ensures { λ r. ⌜ Answered (λ b. carries b (callOf call)) n m
         (lent (now (links .entry)) (now (rules .entry)) (now (entries .entry)) (now (tally .entry)))
         (lent (now (links .exit)) (now (rules .exit)) (now (entries .exit)) (now (tally .exit)))
         (now (out .entry)) r (now (out .exit)) ⌝ }
 {
-    let a = leading(kinds, kinds, 16384);
-    let b = leading(kinds, marks, 8192);
-    let reply = calls::open(
-        kinds,
-        marks,
+    let a = leading(call.n, call.n, links.len());
+    let b = leading(call.n, call.m, rules.len());
+    let answer = calls::carry_out(
+        call,
         &mut links[..a],
         &mut rules[..b],
         &mut entries[..b],
         tally,
     );
-    let length = text::print_opened(reply, kinds, marks, out);
-    match reply {
-        Opened::Done => Turned {
-            n: kinds,
-            m: marks,
-            length,
-        },
-        Opened::Refused(_) => Turned { n, m, length },
-    }
-}
-
-// A line that adds a rule.
-fn add_rule(
-    n: u16,
-    m: u16,
-    links: &[u8],
-    rules: &mut [u16],
-    entries: &mut [u16],
-    tally: &mut [u32],
-    kind: Kind,
-    mark: Mark,
-    handling: u16,
-    out: &mut [u8; 64],
-) -> Turned
-    requires { ⌜ Room (lent (now links) (now rules) (now entries) (now tally)) ⌝ }
-    ensures { λ r. ⌜ Answered (λ b. turnOf b (addRule (kind .0) (mark .0) handling)) n m
-        (lent (now (links .entry)) (now (rules .entry)) (now (entries .entry)) (now (tally .entry)))
-        (lent (now (links .entry)) (now (rules .exit)) (now (entries .exit)) (now (tally .exit)))
-        (now (out .entry)) r (now (out .exit)) ⌝ }
-{
-    let a = leading(n, n, 16384);
-    let b = leading(n, m, 8192);
-    let reply = calls::add_rule(
-        n,
-        m,
-        &links[..a],
-        &mut rules[..b],
-        &mut entries[..b],
-        tally,
-        kind,
-        mark,
-        handling,
-    );
-    let length = text::print_edited(reply, out);
-    Turned { n, m, length }
-}
-
-// A line that takes a rule.
-fn take_rule(
-    n: u16,
-    m: u16,
-    links: &[u8],
-    rules: &mut [u16],
-    entries: &mut [u16],
-    tally: &mut [u32],
-    kind: Kind,
-    mark: Mark,
-    out: &mut [u8; 64],
-) -> Turned
-    requires { ⌜ Room (lent (now links) (now rules) (now entries) (now tally)) ⌝ }
-    ensures { λ r. ⌜ Answered (λ b. turnOf b (takeRule (kind .0) (mark .0))) n m
-        (lent (now (links .entry)) (now (rules .entry)) (now (entries .entry)) (now (tally .entry)))
-        (lent (now (links .entry)) (now (rules .exit)) (now (entries .exit)) (now (tally .exit)))
-        (now (out .entry)) r (now (out .exit)) ⌝ }
-{
-    let a = leading(n, n, 16384);
-    let b = leading(n, m, 8192);
-    let reply = calls::take_rule(
-        n,
-        m,
-        &links[..a],
-        &mut rules[..b],
-        &mut entries[..b],
-        tally,
-        kind,
-        mark,
-    );
-    let length = text::print_edited(reply, out);
-    Turned { n, m, length }
-}
-
-// A line that adds a link.
-fn add_link(
-    n: u16,
-    m: u16,
-    links: &mut [u8],
-    rules: &[u16],
-    entries: &mut [u16],
-    tally: &mut [u32],
-    child: Kind,
-    parent: Kind,
-    out: &mut [u8; 64],
-) -> Turned
-    requires { ⌜ Room (lent (now links) (now rules) (now entries) (now tally)) ⌝ }
-    ensures { λ r. ⌜ Answered (λ b. turnOf b (addLink (child .0) (parent .0))) n m
-        (lent (now (links .entry)) (now (rules .entry)) (now (entries .entry)) (now (tally .entry)))
-        (lent (now (links .exit)) (now (rules .entry)) (now (entries .exit)) (now (tally .exit)))
-        (now (out .entry)) r (now (out .exit)) ⌝ }
-{
-    let a = leading(n, n, 16384);
-    let b = leading(n, m, 8192);
-    let reply = calls::add_link(
-        n,
-        m,
-        &mut links[..a],
-        &rules[..b],
-        &mut entries[..b],
-        tally,
-        child,
-        parent,
-    );
-    let length = text::print_edited(reply, out);
-    Turned { n, m, length }
-}
-
-// A line that takes a link.
-fn take_link(
-    n: u16,
-    m: u16,
-    links: &mut [u8],
-    rules: &[u16],
-    entries: &mut [u16],
-    tally: &mut [u32],
-    child: Kind,
-    parent: Kind,
-    out: &mut [u8; 64],
-) -> Turned
-    requires { ⌜ Room (lent (now links) (now rules) (now entries) (now tally)) ⌝ }
-    ensures { λ r. ⌜ Answered (λ b. turnOf b (takeLink (child .0) (parent .0))) n m
-        (lent (now (links .entry)) (now (rules .entry)) (now (entries .entry)) (now (tally .entry)))
-        (lent (now (links .exit)) (now (rules .entry)) (now (entries .exit)) (now (tally .exit)))
-        (now (out .entry)) r (now (out .exit)) ⌝ }
-{
-    let a = leading(n, n, 16384);
-    let b = leading(n, m, 8192);
-    let reply = calls::take_link(
-        n,
-        m,
-        &mut links[..a],
-        &rules[..b],
-        &mut entries[..b],
-        tally,
-        child,
-        parent,
-    );
-    let length = text::print_edited(reply, out);
-    Turned { n, m, length }
-}
-
-// A line that finds what holds for a kind and a mark.
-fn find(
-    n: u16,
-    m: u16,
-    links: &[u8],
-    rules: &[u16],
-    entries: &[u16],
-    tally: &[u32],
-    kind: Kind,
-    mark: Mark,
-    out: &mut [u8; 64],
-) -> Turned
-    requires { ⌜ Room (lent (now links) (now rules) (now entries) (now tally)) ⌝ }
-    ensures { λ r. ⌜ Answered (λ b. turnOf b (find (kind .0) (mark .0))) n m
-        (lent (now (links .entry)) (now (rules .entry)) (now (entries .entry)) (now (tally .entry)))
-        (lent (now (links .entry)) (now (rules .entry)) (now (entries .entry)) (now (tally .entry)))
-        (now (out .entry)) r (now (out .exit)) ⌝ }
-{
-    let a = leading(n, n, 16384);
-    let b = leading(n, m, 8192);
-    let reply = calls::find(
-        n,
-        m,
-        &links[..a],
-        &rules[..b],
-        &entries[..b],
-        tally,
-        kind,
-        mark,
-    );
-    let length = text::print_found(reply, out);
-    Turned { n, m, length }
+    let length = answers::print_answer(answer, call.n, call.m, out);
+    size_after(answer, call, n, m, length)
 }
 
 // One line, which comes without its line feed. The book of n kinds and m marks stands in the leading parts of the tables; before
@@ -255,15 +128,10 @@ pub fn line(
         (lent (now (links .exit)) (now (rules .exit)) (now (entries .exit)) (now (tally .exit)))
         (now (out .entry)) r (now (out .exit)) ⌝ }
 {
-    match text::read(input) {
-        Form::Open(k, j) => open(n, m, links, rules, entries, tally, k, j, out),
-        Form::AddRule(k, j, h) => add_rule(n, m, links, rules, entries, tally, k, j, h, out),
-        Form::TakeRule(k, j) => take_rule(n, m, links, rules, entries, tally, k, j, out),
-        Form::AddLink(c, p) => add_link(n, m, links, rules, entries, tally, c, p, out),
-        Form::TakeLink(c, p) => take_link(n, m, links, rules, entries, tally, c, p, out),
-        Form::Find(k, j) => find(n, m, links, rules, entries, tally, k, j, out),
-        Form::Bad => {
-            let length = text::print_refused(Refusal::BadForm, out);
+    match call_for(forms::read(input), n, m) {
+        Wanted::Call(call) => carry(call, n, m, links, rules, entries, tally, out),
+        Wanted::Bad => {
+            let length = answers::print_refused(Refusal::BadForm, out);
             Turned { n, m, length }
         }
     }

@@ -1,3 +1,1 @@
-pub mod Examined
-pub mod Merged
 pub mod Settled

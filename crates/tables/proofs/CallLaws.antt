@@ -20,7 +20,7 @@ use Rattle.inheritance.specs.Lookup.{lookup}
 use Rattle.inheritance.proofs.LookupLaws.{InRange, lookup-range}
 use Rattle.tables.specs.Entry.{entryOf}
 use Rattle.tables.specs.Reply.{Reply, refused, given, Finding, Fault}
-use Rattle.tables.specs.Tables.{Tables, shaped, upOf, ownOf, entryAt, all-below, byte-right, kind-free, entry-right, well-linked, sound}
+use Rattle.tables.specs.Tables.{Tables, shaped, upOf, ownOf, entryAt, all-below, byte-right, bytes-right, kind-free, entry-right, well-linked, sound-over, sound}
 use Rattle.tables.specs.Calls as calls
 use Rattle.tables.specs.Calls.{Outcome, check, leaves, findingOf, handled, lowest, firstFault, faultOf}
 use Rattle.tables.proofs.FindingLaws.{finding-none, finding-rule, finding-dispute, handled-some}
@@ -128,7 +128,7 @@ module _ (n m : ℕ) (t : Tables) (k j : ℕ) (fits : shaped n m t ≡ true) (k<
   find-sound =
       let shape = sized-facts 1 1 n m _ _ _ _ fits in
       let s = sound-means n m t (omega (arith, shape .entries-length)) is-sound in
-      let looked = entries-looked n m (t .links) (t .rules) (t .entries) (s .entries) k j k<n j<m in
+      let looked = entries-looked n m (upOf n (t .links)) (t .rules) (t .entries) (s .entries) k j k<n j<m in
       rw (fits, lt-ltb k n k<n, lt-ltb j m j<m)
       (ap (findingOf n (λ o. getD (t .rules) (o * m + j) 0)) looked
       ∙ finding-entry n (shape .kinds .1) (λ o. getD (t .rules) (o * m + j) 0) (lookup n (upOf n (t .links)) (ownOf m (t .rules) j) k)
@@ -158,11 +158,12 @@ lowest-fails f (suc k) e = go (all-below f k) (f k) refl refl e (lowest-fails f 
 
 module _ (n m : ℕ) (t : Tables) where
   pub inspect-sound : shaped n m t ≡ true → (calls.inspect n m t .reply ≡ given Fault.sound) ↔ (sound n m t ≡ true)
-  unfolding calls.inspect check faultOf sound well-linked
+  unfolding calls.inspect check faultOf sound sound-over bytes-right well-linked
   inspect-sound fits =
-      rw fits (go (all-below (byte-right (t .links)) (n * n)) (all-below (kind-free n (t .links)) n) (all-below (entry-right n m t) (n * m)) _ _ _)
+      let up = upOf n (t .links) in
+      rw fits (go (all-below (byte-right (t .links)) (n * n)) (all-below (kind-free n up) n) (all-below (entry-right n m up (t .rules) (t .entries)) (n * m)) _ _ _)
     where
-      go : (a b c : Bool) (byte kind entry : ℕ) → (given (firstFault a b c byte kind entry) ≡ given Fault.sound) ↔ ((a && b && c) ≡ true)
+      go : (a b c : Bool) (byte kind entry : ℕ) → (given (firstFault a b c byte kind entry) ≡ given Fault.sound) ↔ ((a && (b && c)) ≡ true)
       go true true true byte kind entry = (λ _. refl, λ _. refl)
       go true true false byte kind entry = (λ e. let never : _≡_ {A = ℕ} 0 1 = cc in absurd (omega arith), λ e. absurd (false≢true e))
       go true false c byte kind entry = (λ e. let never : _≡_ {A = ℕ} 0 1 = cc in absurd (omega arith), λ e. absurd (false≢true e))

@@ -27,12 +27,12 @@ use Rattle.inheritance.proofs.AboveLaws.{SameBut, no-chain, upto-step, chain-ab
 use Rattle.inheritance.proofs.TouchLaws.{below-carries, upto-carries, rule-touched, link-keeps-parent, link-touched}
 use Rattle.tables.specs.Entry.{entryOf}
 use Rattle.tables.specs.Reply.{given}
-use Rattle.tables.specs.Tables.{Tables, shaped, upOf, ownOf, entryAt, grid, entriesOf, sound, differing}
+use Rattle.tables.specs.Tables.{Tables, shaped, LengthsOf, Sized, upOf, ownOf, entryAt, grid, entriesOf, sound, differing}
 use Rattle.tables.specs.Touch.{RuleTouches, LinkTouches}
 use Rattle.tables.specs.Edit.{OnePlace, apart, Edited, RuleEdited, LinkEdited}
 use Rattle.tables.specs.Calls.{accepted, addRule, takeRule, addLink, takeLink}
 use Rattle.tables.proofs.CallLaws.{check-given}
-use Rattle.tables.proofs.ShapeLaws.{sized-facts}
+use Rattle.tables.proofs.ShapeLaws.{sized-facts, shape-sized}
 use Rattle.tables.proofs.SoundLaws.{Sound, sound-means, means-sound, length-entriesOf, entriesOf-at, entries-looked}
 use Rattle.tables.proofs.TableLaws.{place-split, differing-self, differing-count}
 
@@ -52,16 +52,16 @@ none-of-0 (Rule k) e = absurd (omega arith)
 none-of-0 (Dispute k) e = absurd (omega arith)
 
 accepted-count : (n m : ℕ) (t : Tables) (links rules : List ℕ) (returned : ℕ) → accepted n m t links rules .reply ≡ given returned
-    → returned ≡ differing (t .entries) (entriesOf n m links rules)
+    → returned ≡ differing (t .entries) (entriesOf n m (upOf n links) rules)
 unfolding accepted
 accepted-count n m t links rules returned is = cc
 
 -- handling numbers play no part in the entries
-entriesOf-own : (n m : ℕ) (links rules rules′ : List ℕ) → ((j c : ℕ) → ownOf m rules j c ≡ ownOf m rules′ j c)
-    → entriesOf n m links rules ≡ entriesOf n m links rules′
+entriesOf-own : (n m : ℕ) (up : ℕ → ℕ → Bool) (rules rules′ : List ℕ) → ((j c : ℕ) → ownOf m rules j c ≡ ownOf m rules′ j c)
+    → entriesOf n m up rules ≡ entriesOf n m up rules′
 unfolding entriesOf entryAt
-entriesOf-own n m links rules rules′ same =
-    ap (λ (own : ℕ → ℕ → Bool). grid (λ c j. entryOf (lookup n (upOf n links) (own j) c)) m n) (fun-ext (λ j. fun-ext (same j)))
+entriesOf-own n m up rules rules′ same =
+    ap (λ (own : ℕ → ℕ → Bool). grid (λ c j. entryOf (lookup n up (own j) c)) m n) (fun-ext (λ j. fun-ext (same j)))
 
 module _ (n m : ℕ) (t : Tables) (size : length (t .entries) ≡ n * m) (before : Sound n m t) where
   -- ---- an accepted edit with these links and rules
@@ -71,11 +71,11 @@ module _ (n m : ℕ) (t : Tables) (size : length (t .entries) ≡ n * m) (before
     after = accepted n m t links rules .tables
 
     entry-before : (k j : ℕ) → k < n → j < m → getD (t .entries) (k * m + j) 0 ≡ entryAt n m (upOf n (t .links)) (t .rules) k j
-    entry-before = entries-looked n m (t .links) (t .rules) (t .entries) (before .entries)
+    entry-before = entries-looked n m (upOf n (t .links)) (t .rules) (t .entries) (before .entries)
 
     entry-after : (k j : ℕ) → k < n → j < m → getD (after .entries) (k * m + j) 0 ≡ entryAt n m (upOf n links) rules k j
     unfolding accepted
-    entry-after = entriesOf-at n m links rules
+    entry-after = entriesOf-at n m (upOf n links) rules
 
     -- entries that differ are of lookups that differ
     lookups-differ : (k j : ℕ) → k < n → j < m → getD (t .entries) (k * m + j) 0 ≢ getD (after .entries) (k * m + j) 0
@@ -90,14 +90,14 @@ module _ (n m : ℕ) (t : Tables) (size : length (t .entries) ≡ n * m) (before
         → Edited n m Touches t after returned
     unfolding accepted
     accepted-edits Touches bytes acyclic touched same-reading = record {
-      sound-after = means-sound n m after (length-entriesOf n m links rules) (record { bytes = bytes; acyclic = acyclic; entries = refl });
+      sound-after = means-sound n m after (length-entriesOf n m (upOf n links) rules) (record { bytes = bytes; acyclic = acyclic; entries = refl });
       tally-after = refl;
       touched = touched;
       same-reading = same-reading;
       counted =
           accepted-count n m t links rules returned is
-          ∙ differing-count (t .entries) (entriesOf n m links rules) (size ∙ sym (length-entriesOf n m links rules))
-          ∙ ap (λ (x : ℕ). count (apart (t .entries) (entriesOf n m links rules)) x) size;
+          ∙ differing-count (t .entries) (entriesOf n m (upOf n links) rules) (size ∙ sym (length-entriesOf n m (upOf n links) rules))
+          ∙ ap (λ (x : ℕ). count (apart (t .entries) (entriesOf n m (upOf n links) rules)) x) size;
     }
 
   -- ---- an edit of a rule
@@ -229,25 +229,15 @@ module _ (n m : ℕ) (t : Tables) (size : length (t .entries) ≡ n * m) (before
 
 -- what a call knows whose checks of shape and soundness were passed
 pub record Passed (n m : ℕ) (t : Tables) : Type 0 where
-  pub kinds : (1 ≤ n) × (n ≤ 128)
-  pub marks : (1 ≤ m) × (m ≤ 64)
-  pub links-size : length (t .links) ≡ n * n
-  pub rules-size : length (t .rules) ≡ n * m
-  pub entries-size : length (t .entries) ≡ n * m
+  pub lengths : LengthsOf n m t
+  pub sizes : Sized n m (t .rules) (t .entries)
   pub before : Sound n m t
 
 pub passed : (n m : ℕ) (t : Tables) → shaped n m t ≡ true → sound n m t ≡ true → Passed n m t
 passed n m t fits is-sound =
     let s = sized-facts 1 1 n m _ _ _ _ fits in
-    let size : length (t .entries) ≡ n * m = omega (arith, s .entries-length) in
-    record {
-      kinds = s .kinds;
-      marks = s .marks;
-      links-size = s .links-length;
-      rules-size = omega (arith, s .rules-length);
-      entries-size = size;
-      before = sound-means n m t size is-sound;
-    }
+    let sizes = shape-sized n m t s in
+    record { lengths = s; sizes = sizes; before = sound-means n m t (sizes .entries-size) is-sound }
 
 or-false : (a : Bool) {b : Bool} → (a || b) ≡ false → (a ≡ false) × (b ≡ false)
 or-false true e = absurd (true≢false e)
@@ -255,10 +245,10 @@ or-false false e = (refl, e)
 
 module _ (n m : ℕ) (t : Tables) (s : Passed n m t) (child parent : ℕ) (child-in : child < n) (parent-in : parent < n) where
   changed-but : (byte : ℕ) → byte ≤ 1 → SameBut n (upOf n (t .links)) (upOf n (set (t .links) (child * n + parent) byte)) child parent
-  changed-but byte small = same-but n m t (s .entries-size) (s .before) child parent byte child-in parent-in (s .links-size) small
+  changed-but byte small = same-but n m t (s .sizes .entries-size) (s .before) child parent byte child-in parent-in (s .lengths .links-length) small
 
   changed-there : (byte : ℕ) → byte ≤ 1 → upOf n (set (t .links) (child * n + parent) byte) child parent ≡ eqb byte 1
-  changed-there byte small = up-set n m t (s .entries-size) (s .before) child parent byte child-in parent-in (s .links-size) small
+  changed-there byte small = up-set n m t (s .sizes .entries-size) (s .before) child parent byte child-in parent-in (s .lengths .links-length) small
 
   pub added-acyclic : (eqb parent child || above n (upOf n (t .links)) parent child) ≡ false → Acyclic n (upOf n (set (t .links) (child * n + parent) 1))
   added-acyclic e =
@@ -277,7 +267,7 @@ module _ (n m : ℕ) (t : Tables) where
       check-given 1 t _ P _ λ fits. check-given 2 t _ P _ λ kind-in. check-given 3 t _ P _ λ mark-in. check-given 4 t _ P _ λ _.
       check-given 5 t _ P _ λ is-sound is.
       let s = passed n m t fits is-sound in
-      rule-edits n m t (s .entries-size) (s .before) kind mark handling (ltb-true _ _ kind-in) (ltb-true _ _ mark-in) (s .rules-size) returned is
+      rule-edits n m t (s .sizes .entries-size) (s .before) kind mark handling (ltb-true _ _ kind-in) (ltb-true _ _ mark-in) (s .sizes .rules-size) returned is
 
   pub takeRule-edits : (kind mark returned : ℕ) → takeRule n m t kind mark .reply ≡ given returned
       → RuleEdited n m kind mark 0 t (takeRule n m t kind mark .tables) returned
@@ -287,7 +277,7 @@ module _ (n m : ℕ) (t : Tables) where
       check-given 1 t _ P _ λ fits. check-given 2 t _ P _ λ kind-in. check-given 3 t _ P _ λ mark-in. check-given 5 t _ P _ λ is-sound.
       check-given 6 t _ P _ λ _ is.
       let s = passed n m t fits is-sound in
-      rule-edits n m t (s .entries-size) (s .before) kind mark 0 (ltb-true _ _ kind-in) (ltb-true _ _ mark-in) (s .rules-size) returned is
+      rule-edits n m t (s .sizes .entries-size) (s .before) kind mark 0 (ltb-true _ _ kind-in) (ltb-true _ _ mark-in) (s .sizes .rules-size) returned is
 
   pub addLink-edits : (child parent returned : ℕ) → addLink n m t child parent .reply ≡ given returned
       → LinkEdited n m child parent 1 t (addLink n m t child parent .tables) returned
@@ -304,7 +294,7 @@ module _ (n m : ℕ) (t : Tables) where
           → accepted n m t (set (t .links) (child * n + parent) 1) (t .rules) .reply ≡ given returned
           → LinkEdited n m child parent 1 t (accepted n m t (set (t .links) (child * n + parent) 1) (t .rules) .tables) returned
       go child-in parent-in s no-cycle is =
-          link-edits n m t (s .entries-size) (s .before) child parent 1 child-in parent-in (s .links-size) (omega arith)
+          link-edits n m t (s .sizes .entries-size) (s .before) child parent 1 child-in parent-in (s .lengths .links-length) (omega arith)
           (added-acyclic n m t s child parent child-in parent-in no-cycle) apart returned is
         where
           apart : ¬ Upto n (upOf n (t .links)) parent child
@@ -326,7 +316,7 @@ module _ (n m : ℕ) (t : Tables) where
           → accepted n m t (set (t .links) (child * n + parent) 0) (t .rules) .reply ≡ given returned
           → LinkEdited n m child parent 0 t (accepted n m t (set (t .links) (child * n + parent) 0) (t .rules) .tables) returned
       go child-in parent-in s there is =
-          link-edits n m t (s .entries-size) (s .before) child parent 0 child-in parent-in (s .links-size) (omega arith)
+          link-edits n m t (s .sizes .entries-size) (s .before) child parent 0 child-in parent-in (s .lengths .links-length) (omega arith)
           (taken-acyclic n m t s child parent child-in parent-in)
           (λ round. no-chain n (upOf n (t .links)) (s .before .acyclic) child-in (upto-step n (upOf n (t .links)) parent-in there round)) returned is
 
@@ -345,11 +335,11 @@ module _ (n m : ℕ) (t : Tables) where
       own-same : Passed n m t → kind < n → mark < m → handling ≢ 0 → (j c : ℕ) → ownOf m (set (t .rules) place handling) j c ≡ ownOf m (t .rules) j c
       own-same s kind-in mark-in some j c = by-cases (ℕ-discrete (c * m + j) place)
           (λ here. subst (λ (x : ℕ). not (eqb (getD (set (t .rules) place handling) x 0) 0) ≡ not (eqb (getD (t .rules) x 0) 0)) (sym here)
-          (rw (getD-set-same (t .rules) place handling 0 (rw (s .rules-size) (digits-lt kind-in mark-in)), ne-eqb handling 0 some) (sym has)))
+          (rw (getD-set-same (t .rules) place handling 0 (rw (s .sizes .rules-size) (digits-lt kind-in mark-in)), ne-eqb handling 0 some) (sym has)))
           (λ ne. ap (λ (x : ℕ). not (eqb x 0)) (getD-set-other (t .rules) place (c * m + j) handling 0 ne))
 
       go : Passed n m t → kind < n → mark < m → handling ≢ 0 → accepted n m t (t .links) (set (t .rules) place handling) .reply ≡ given returned → returned ≡ 0
       go s kind-in mark-in some is =
           accepted-count n m t (t .links) (set (t .rules) place handling) returned is
-          ∙ ap (differing (t .entries)) (entriesOf-own n m (t .links) _ _ (own-same s kind-in mark-in some) ∙ sym (s .before .entries))
+          ∙ ap (differing (t .entries)) (entriesOf-own n m (upOf n (t .links)) _ _ (own-same s kind-in mark-in some) ∙ sym (s .before .entries))
           ∙ differing-self (t .entries)

@@ -5,10 +5,12 @@
 --     step-looked                        where no kind is above itself: a kind whose parents have their lookups has its own by one step
 --     stepped-looked, looked-stepped     there `Stepped` and `Looked` are the same
 --     entries-looked, looked-entries     `Looked` tables are those of `entriesOf`
+--     free-means, bytes-mean             what `well-linked` and `bytes-right` test, as facts; means-free, mean-bytes: and back
+--     acyclic-agree, free-agree, entriesOf-agree     only the links below n play a part
 --     Sound, sound-means, means-sound    what `sound` tests, as facts
---     sound-by-steps                     the tables are sound exactly if they are well linked and every entry follows by one step
+--     over-by-steps, sound-by-steps      the tables are sound exactly if they are well linked and every entry follows by one step
 -- Assumes nothing.
-use mathlib.Core.Path.{_≡_, refl, sym, _∙_, ap}
+use mathlib.Core.Path.{_≡_, refl, sym, _∙_, ap, ap₂}
 use mathlib.Core.Bool.{Bool, true, false, _&&_, not, and-eq-true-iff}
 use mathlib.Core.List.{List}
 use Prim.Native.Nat.{ℕ, _+_, _*_, _<_, _≤_}
@@ -23,12 +25,14 @@ use Rattle.inheritance.specs.declared.Lookup.the-variants.{None, Rule, Dispute}
 use Rattle.inheritance.specs.Above.{Acyclic}
 use Rattle.inheritance.specs.Lookup.{left, lookup}
 use Rattle.inheritance.specs.Step.{step}
+use Rattle.inheritance.proofs.AboveLaws.{above-same}
 use Rattle.inheritance.proofs.MeetLaws.{given-same}
-use Rattle.inheritance.proofs.LeftLaws.{same-bool, left-agree}
+use Rattle.inheritance.proofs.Bools.{same-bool}
+use Rattle.inheritance.proofs.LeftLaws.{left-agree}
 use Rattle.inheritance.proofs.LookupLaws.{InRange, lookup-range, unique-by}
 use Rattle.inheritance.proofs.StepLaws.{step-same, step-keeps, lookup-step}
 use Rattle.tables.specs.Entry.{entryOf, lookupOf}
-use Rattle.tables.specs.Tables.{Tables, upOf, ownOf, entryAt, entriesOf, all-below, byte-right, entry-right, well-linked, sound}
+use Rattle.tables.specs.Tables.{Tables, upOf, ownOf, entryAt, entriesOf, all-below, entry-right, bytes-right, well-linked, sound-over, sound}
 use Rattle.tables.specs.Step.{read, stepped, kind-right, right}
 use Rattle.tables.proofs.EntryLaws.{Coded, entry-lookup, coded-none, coded-rule, coded-dispute, coded-read}
 use Rattle.tables.proofs.TableLaws.{below-true, true-below, below-same, length-grid, grid-at, grid-ext}
@@ -104,74 +108,110 @@ module _ (n m : ℕ) (up : ℕ → ℕ → Bool) (rules entries : List ℕ) (kin
 
 -- ---- as the definitions have it
 
-module _ (n m : ℕ) (links rules : List ℕ) where
-  pub length-entriesOf : length (entriesOf n m links rules) ≡ n * m
+module _ (n : ℕ) (up : ℕ → ℕ → Bool) where
+  pub free-means : well-linked n up ≡ true → Acyclic n up
+  unfolding well-linked
+  free-means e c h = not-true _ (below-true _ n e c h)
+
+  pub means-free : Acyclic n up → well-linked n up ≡ true
+  unfolding well-linked
+  means-free acyclic = true-below _ n (λ c h. ap not (acyclic c h))
+
+module _ (n m : ℕ) (up : ℕ → ℕ → Bool) (rules : List ℕ) where
+  pub length-entriesOf : length (entriesOf n m up rules) ≡ n * m
   unfolding entriesOf
   length-entriesOf = length-grid _ m n
 
-  pub entriesOf-at : (c j : ℕ) → c < n → j < m → getD (entriesOf n m links rules) (c * m + j) 0 ≡ entryAt n m (upOf n links) rules c j
+  pub entriesOf-at : (c j : ℕ) → c < n → j < m → getD (entriesOf n m up rules) (c * m + j) 0 ≡ entryAt n m up rules c j
   unfolding entriesOf
   entriesOf-at c j hc hj = grid-at _ m n c j hc hj
 
   module _ (entries : List ℕ) where
-    pub looked-entries : length entries ≡ n * m → Looked n m (upOf n links) rules entries → entries ≡ entriesOf n m links rules
+    pub looked-entries : length entries ≡ n * m → Looked n m up rules entries → entries ≡ entriesOf n m up rules
     unfolding entriesOf
     looked-entries size r = grid-ext _ m n entries size r
 
-    pub entries-looked : entries ≡ entriesOf n m links rules → Looked n m (upOf n links) rules entries
+    pub entries-looked : entries ≡ entriesOf n m up rules → Looked n m up rules entries
     entries-looked e c j hc hj = ap (λ (l : List ℕ). getD l (c * m + j) 0) e ∙ entriesOf-at c j hc hj
+
+    module _ (size : length entries ≡ n * m) where
+      entries-true : all-below (entry-right n m up rules entries) (n * m) ≡ true → entries ≡ entriesOf n m up rules
+      entries-true e =
+          ext-getD 0 entries (entriesOf n m up rules) (size ∙ sym length-entriesOf) (λ i h. eqb-true _ _ (below-true _ (n * m) e i (rw size at h)))
+
+      true-entries : entries ≡ entriesOf n m up rules → all-below (entry-right n m up rules entries) (n * m) ≡ true
+      true-entries e = true-below _ (n * m) (λ i h. eq-eqb _ _ (ap (λ (l : List ℕ). getD l i 0) e))
+
+      pub over-by-steps : n ≤ 256 → sound-over n m up rules entries ≡ (well-linked n up && right n m up rules entries)
+      unfolding sound-over
+      over-by-steps kinds = and-when (well-linked n up) _ _ (λ e. same-bool _ _ (to (free-means n up e)) (from (free-means n up e)))
+        where
+          and-when : (a b c : Bool) → (a ≡ true → b ≡ c) → (a && b) ≡ (a && c)
+          and-when true b c same = same refl
+          and-when false b c same = refl
+
+          to : Acyclic n up → all-below (entry-right n m up rules entries) (n * m) ≡ true → right n m up rules entries ≡ true
+          to acyclic e = stepped-right n m _ _ _ (looked-stepped n m _ _ _ kinds acyclic (entries-looked (entries-true e)))
+
+          from : Acyclic n up → right n m up rules entries ≡ true → all-below (entry-right n m up rules entries) (n * m) ≡ true
+          from acyclic e = true-entries (looked-entries size (stepped-looked n m _ _ _ kinds acyclic (right-stepped n m _ _ _ e)))
+
+-- ---- links that agree below n
+
+module _ (n : ℕ) (up up′ : ℕ → ℕ → Bool) (agree : (c p : ℕ) → c < n → p < n → up c p ≡ up′ c p) where
+  pub acyclic-agree : Acyclic n up → Acyclic n up′
+  acyclic-agree acyclic c h = sym (above-same n up up′ agree c c h h) ∙ acyclic c h
+
+  pub free-agree : well-linked n up ≡ well-linked n up′
+  unfolding well-linked
+  free-agree = below-same _ _ n (λ c h. ap not (above-same n up up′ agree c c h h))
+
+  pub entriesOf-agree : (m : ℕ) → n ≤ 256 → Acyclic n up → (rules : List ℕ) → entriesOf n m up rules ≡ entriesOf n m up′ rules
+  entriesOf-agree m kinds acyclic rules =
+      let entries = entriesOf n m up rules in
+      let steps = looked-stepped n m up rules entries kinds acyclic (entriesOf-at n m up rules) in
+      looked-entries n m up′ rules entries (length-entriesOf n m up rules)
+      (stepped-looked n m up′ rules entries kinds (acyclic-agree acyclic) (λ c j hc hj. steps c j hc hj ∙ stepped-up n m up up′ rules entries agree c j hc))
+
+-- ---- the tables
+
+module _ (n : ℕ) (links : List ℕ) where
+  pub bytes-mean : bytes-right n links ≡ true → (i : ℕ) → i < n * n → getD links i 0 ≤ 1
+  unfolding bytes-right
+  bytes-mean e i h = leb-true _ _ (below-true _ (n * n) e i h)
+
+  pub mean-bytes : ((i : ℕ) → i < n * n → getD links i 0 ≤ 1) → bytes-right n links ≡ true
+  unfolding bytes-right
+  mean-bytes bytes = true-below _ (n * n) (λ i h. le-leb _ _ (bytes i h))
 
 module _ (n m : ℕ) (t : Tables) where
   pub record Sound : Type 0 where
     pub bytes : (i : ℕ) → i < n * n → getD (t .links) i 0 ≤ 1
     pub acyclic : Acyclic n (upOf n (t .links))
-    pub entries : t .entries ≡ entriesOf n m (t .links) (t .rules)
-
-  pub links-mean : well-linked n (t .links) ≡ true → ((i : ℕ) → i < n * n → getD (t .links) i 0 ≤ 1) × Acyclic n (upOf n (t .links))
-  unfolding well-linked
-  links-mean e =
-      let (bytes, free) = and-eq-true-iff (all-below (byte-right (t .links)) (n * n)) _ .0 e in
-      (λ i h. leb-true _ _ (below-true _ (n * n) bytes i h), λ c h. not-true _ (below-true _ n free c h))
-
-  pub mean-links : ((i : ℕ) → i < n * n → getD (t .links) i 0 ≤ 1) → Acyclic n (upOf n (t .links)) → well-linked n (t .links) ≡ true
-  unfolding well-linked
-  mean-links bytes acyclic =
-      and-eq-true-iff _ _ .1 (true-below _ (n * n) (λ i h. le-leb _ _ (bytes i h)), true-below _ n (λ c h. ap not (acyclic c h)))
+    pub entries : t .entries ≡ entriesOf n m (upOf n (t .links)) (t .rules)
 
   module _ (size : length (t .entries) ≡ n * m) where
-    entries-true : all-below (entry-right n m t) (n * m) ≡ true → t .entries ≡ entriesOf n m (t .links) (t .rules)
-    entries-true e =
-        ext-getD 0 (t .entries) (entriesOf n m (t .links) (t .rules)) (size ∙ sym (length-entriesOf n m (t .links) (t .rules)))
-        (λ i h. eqb-true _ _ (below-true _ (n * m) e i (rw size at h)))
-
-    true-entries : t .entries ≡ entriesOf n m (t .links) (t .rules) → all-below (entry-right n m t) (n * m) ≡ true
-    true-entries e = true-below _ (n * m) (λ i h. eq-eqb _ _ (ap (λ (l : List ℕ). getD l i 0) e))
-
     pub sound-means : sound n m t ≡ true → Sound
-    unfolding sound
+    unfolding sound sound-over
     sound-means e =
-        let (linked, right) = and-eq-true-iff (well-linked n (t .links)) _ .0 e in
-        let (bytes, acyclic) = links-mean linked in
-        record { bytes = bytes; acyclic = acyclic; entries = entries-true right }
+        let (bytes, over) = and-eq-true-iff (bytes-right n (t .links)) _ .0 e in
+        let (free, right) = and-eq-true-iff (well-linked n (upOf n (t .links))) _ .0 over in
+        record {
+          bytes = bytes-mean n (t .links) bytes;
+          acyclic = free-means n (upOf n (t .links)) free;
+          entries = entries-true n m (upOf n (t .links)) (t .rules) (t .entries) size right;
+        }
 
     pub means-sound : Sound → sound n m t ≡ true
+    unfolding sound sound-over
+    means-sound s =
+        and-eq-true-iff _ _ .1 (
+          mean-bytes n (t .links) (s .bytes),
+          and-eq-true-iff _ _ .1
+              (means-free n (upOf n (t .links)) (s .acyclic), true-entries n m (upOf n (t .links)) (t .rules) (t .entries) size (s .entries)),
+        )
+
+    pub sound-by-steps : n ≤ 256
+        → sound n m t ≡ (bytes-right n (t .links) && (well-linked n (upOf n (t .links)) && right n m (upOf n (t .links)) (t .rules) (t .entries)))
     unfolding sound
-    means-sound s = and-eq-true-iff _ _ .1 (mean-links (s .bytes) (s .acyclic), true-entries (s .entries))
-
-    pub sound-by-steps : n ≤ 256 → sound n m t ≡ (well-linked n (t .links) && right n m (upOf n (t .links)) (t .rules) (t .entries))
-    unfolding sound
-    sound-by-steps kinds = and-when (well-linked n (t .links)) _ _ (λ e. same-bool _ _ (to (links-mean e .1)) (from (links-mean e .1)))
-      where
-        and-when : (a b c : Bool) → (a ≡ true → b ≡ c) → (a && b) ≡ (a && c)
-        and-when true b c same = same refl
-        and-when false b c same = refl
-
-        to : Acyclic n (upOf n (t .links)) → all-below (entry-right n m t) (n * m) ≡ true → right n m (upOf n (t .links)) (t .rules) (t .entries) ≡ true
-        to acyclic e =
-            stepped-right n m _ _ _
-            (looked-stepped n m _ _ _ kinds acyclic (entries-looked n m (t .links) (t .rules) (t .entries) (entries-true e)))
-
-        from : Acyclic n (upOf n (t .links)) → right n m (upOf n (t .links)) (t .rules) (t .entries) ≡ true → all-below (entry-right n m t) (n * m) ≡ true
-        from acyclic e =
-            true-entries (looked-entries n m (t .links) (t .rules) (t .entries) size
-            (stepped-looked n m _ _ _ kinds acyclic (right-stepped n m _ _ _ e)))
+    sound-by-steps kinds = ap (λ (b : Bool). bytes-right n (t .links) && b) (over-by-steps n m (upOf n (t .links)) (t .rules) (t .entries) size kinds)

@@ -2,10 +2,10 @@
 --     below-suc, below-true, true-below, below-same     `all-below`: one more, all of them, and tests that agree
 --     length-grid, grid-at, grid-ext                    a grid has its values at its places, and a list that has them is the grid
 --     place-split                                       a place tells its kind and its mark
---     differ-same, differ-other, differ-le              whether two numbers differ
+--     differ-same, differ-le                            whether two numbers differ
 --     differing-self, differing-set                     how many places differ: none from the list itself, and after a store where none did
 --     differing-count                                   it is the number of places i at which the two are not the same
---     tally-next, tally-full                            the tally counts one more, up to 4,294,967,295, where it stays
+--     tally-next, tally-full                            a tally counts one more, up to 4,294,967,295, where it stays; length-tallied: as long as before
 -- Assumes nothing.
 use mathlib.Core.Path.{_≡_, refl, sym, ap, ap₂, _∙_, subst}
 use mathlib.Core.Bool.{Bool, true, false, _&&_, not, and-eq-true-iff}
@@ -18,9 +18,9 @@ use native.Mathlib.Omega.{arith}
 use borrow.Author.Tests.{eqb-true, eq-eqb, ne-eqb, lt-ltb, le-ltb}
 use lib.Arith.{digits-lt, digits-div, digits-mod}
 use lib.Dec.{eqb, ltb}
-use lib.ListN.{length, getD, set, length-append, List·getD-append}
-use lib.Seq.{ext-getD, getD-append-add, getD-at}
-use Rattle.inheritance.specs.Above.{bit, count}
+use lib.ListN.{length, getD, set, length-append, length-set, List·getD-append}
+use lib.Seq.{ext-getD, getD-append-add, getD-at, set-getD}
+use Rattle.inheritance.specs.Above.{one-if, count}
 use Rattle.tables.specs.Edit.{apart}
 use Rattle.tables.specs.Tables.{all-below, listed, grid, differ, differing, saturated, tallied}
 
@@ -101,9 +101,6 @@ differ-by x y e = ap (λ (b : Bool). let d : ℕ = elim b [ true ↦ 0 | false �
 pub differ-same : (x y : ℕ) → x ≡ y → differ x y ≡ 0
 differ-same x y e = differ-by x y (eq-eqb x y e)
 
-pub differ-other : (x y : ℕ) → x ≢ y → differ x y ≡ 1
-differ-other x y ne = differ-by x y (ne-eqb x y ne)
-
 pub differ-le : (x y : ℕ) → differ x y ≤ 1
 differ-le x y = go (eqb x y)
   where
@@ -125,15 +122,15 @@ differing-set (x ∷ xs) (y ∷ ys) zero v len h e = omega (arith, differ-same x
 differing-set (x ∷ xs) (y ∷ ys) (suc i) v len h e = omega (arith, differing-set xs ys i v (omega arith) (omega arith) e)
 
 -- the place by place count from the front: one more place at the front of both lists
-count-front : (f : ℕ → Bool) (k : ℕ) → count f (suc k) ≡ bit (f 0) + count (λ i. f (suc i)) k
+count-front : (f : ℕ → Bool) (k : ℕ) → count f (suc k) ≡ one-if (f 0) + count (λ i. f (suc i)) k
 unfolding count
 count-front f zero = omega arith
 count-front f (suc k) = omega (arith, count-front f k)
 
-differ-bit : (x y : ℕ) → differ x y ≡ bit (not (eqb x y))
-differ-bit x y = go (eqb x y)
+differ-one : (x y : ℕ) → differ x y ≡ one-if (not (eqb x y))
+differ-one x y = go (eqb x y)
   where
-    go : (b : Bool) → _≡_ {A = ℕ} (elim b [ true ↦ 0 | false ↦ 1 ]) (bit (not b))
+    go : (b : Bool) → _≡_ {A = ℕ} (elim b [ true ↦ 0 | false ↦ 1 ]) (one-if (not b))
     go true = refl
     go false = refl
 
@@ -142,16 +139,22 @@ unfolding differing count
 differing-count [] ys len = refl
 differing-count (x ∷ xs) [] len = absurd (omega arith)
 differing-count (x ∷ xs) (y ∷ ys) len =
-    omega (arith, count-front (apart (x ∷ xs) (y ∷ ys)) (length xs), differ-bit x y, differing-count xs ys (omega arith))
+    omega (arith, count-front (apart (x ∷ xs) (y ∷ ys)) (length xs), differ-one x y, differing-count xs ys (omega arith))
 
 -- ---- the tally
 
-module _ (x : ℕ) (xs : List ℕ) where
-  pub tally-next : x < 4294967295 → tallied (x ∷ xs) ≡ (x + 1) ∷ xs
-  tally-next h = rw (lt-ltb x 4294967295 h, saturated) refl
+module _ (place : ℕ) (tally : List ℕ) where
+  pub tally-next : getD tally place 0 < 4294967295 → tallied place tally ≡ set tally place (getD tally place 0 + 1)
+  unfolding tallied
+  tally-next h = rw (lt-ltb (getD tally place 0) 4294967295 h, saturated) refl
 
-  pub tally-full : 4294967295 ≤ x → tallied (x ∷ xs) ≡ x ∷ xs
-  tally-full h = rw (le-ltb x 4294967295 h, saturated) refl
+  pub tally-full : 4294967295 ≤ getD tally place 0 → tallied place tally ≡ tally
+  unfolding tallied
+  tally-full h = rw (le-ltb (getD tally place 0) 4294967295 h, saturated) (set-getD tally place 0)
+
+  pub length-tallied : length (tallied place tally) ≡ length tally
+  unfolding tallied
+  length-tallied = length-set tally place _
 
 -- ---- places
 

@@ -1,42 +1,121 @@
--- Lists of calls, each list on a book of its own.
---     Call     one of the nine calls, with its own n and m and any arguments
---     after    the tables that it leaves
---     run      the tables that a list of calls leaves: each call gets them as the call before left them
---     Agree    every place of two tables holds the same number
+-- Calls as values, and lists of them, each list on a book of its own.
+--     Call        a size and what is asked: one of the nine calls, with any arguments; Edit: one of the four edits
+--     Answer      what a call answers, of whichever kind it is
+--     outcome     what a call answers and the tables that it leaves; after: the tables alone
+--     Carried     what carrying out a call on tables gives
+--     callOf, answered     the call, and the answer, that the code's values stand for; editOf: the edit
+--     run         the state that a list of calls leaves: each call gets it as the call before left it
+--     Agree       every place of two tables holds the same number
 -- Assumes nothing.
 use mathlib.Core.Path.{_≡_}
 use mathlib.Core.List.{List, [], _∷_}
 use Prim.Native.Nat.{ℕ}
 use lib.ListN.{getD}
+use Rattle.tables.specs.declared.Edit.{Edit as CodeEdit}
+use Rattle.tables.specs.declared.Request.{Request as CodeRequest}
+use Rattle.tables.specs.declared.Call.{Call as CodeCall}
+use Rattle.tables.specs.declared.Answer.{Answer as CodeAnswer}
+use Rattle.tables.specs.Reply.{Reply, refused, Finding, Fault, TwoKinds, opened, edited, found, paired, inspected}
 use Rattle.tables.specs.Tables.{Tables}
 use Rattle.tables.specs.Calls as calls
+use Rattle.tables.specs.Calls.{Outcome, PartiesGive}
 
-pub data Call : Type 0 where
-  openBook : (n m : ℕ) → Call
-  addRule : (n m kind mark handling : ℕ) → Call
-  takeRule : (n m kind mark : ℕ) → Call
-  addLink : (n m child parent : ℕ) → Call
-  takeLink : (n m child parent : ℕ) → Call
-  find : (n m kind mark : ℕ) → Call
-  parties : (n m kind mark : ℕ) → Call
-  inspect : (n m : ℕ) → Call
-  refresh : (n m : ℕ) → Call
+pub data Edit : Type 0 where
+  addRule : (kind mark handling : ℕ) → Edit
+  takeRule : (kind mark : ℕ) → Edit
+  addLink : (child parent : ℕ) → Edit
+  takeLink : (child parent : ℕ) → Edit
 
--- parties, whose answer is left open, writes to no table
-unfoldable pub after : Call → Tables → Tables
-after (openBook n m) t = calls.openBook n m t .tables
-after (addRule n m kind mark handling) t = calls.addRule n m t kind mark handling .tables
-after (takeRule n m kind mark) t = calls.takeRule n m t kind mark .tables
-after (addLink n m child parent) t = calls.addLink n m t child parent .tables
-after (takeLink n m child parent) t = calls.takeLink n m t child parent .tables
-after (find n m kind mark) t = calls.find n m t kind mark .tables
-after (parties n m kind mark) t = t
-after (inspect n m) t = calls.inspect n m t .tables
-after (refresh n m) t = calls.refresh n m t .tables
+pub data Request : Type 0 where
+  openBook : Request
+  edit : Edit → Request
+  find : (kind mark : ℕ) → Request
+  parties : (kind mark : ℕ) → Request
+  inspect : Request
+  refresh : Request
 
-unfoldable pub run : List Call → Tables → Tables
-run [] t = t
-run (c ∷ cs) t = run cs (after c t)
+pub record Call : Type 0 where
+  pub n : ℕ
+  pub m : ℕ
+  pub request : Request
+
+pub data Answer : Type 0 where
+  opening : Reply (Unit {0}) → Answer
+  editing : Reply ℕ → Answer
+  finding : Reply Finding → Answer
+  pairing : Reply TwoKinds → Answer
+  inspecting : Reply Fault → Answer
+
+pub record Result : Type 0 where
+  pub answer : Answer
+  pub tables : Tables
+
+-- a call that answers so and leaves these tables
+abbrev pub gives : Answer → Tables → Result
+gives answer t = record { answer = answer; tables = t }
+
+-- the outcome of a call of one kind
+abbrev pub told : {A : Type 0} → (Reply A → Answer) → Outcome A → Result
+told answer o = gives (answer (o .reply)) (o .tables)
+
+unfoldable pub editOutcome : (n m : ℕ) → Tables → Edit → Outcome ℕ
+editOutcome n m t (addRule kind mark handling) = calls.addRule n m t kind mark handling
+editOutcome n m t (takeRule kind mark) = calls.takeRule n m t kind mark
+editOutcome n m t (addLink child parent) = calls.addLink n m t child parent
+editOutcome n m t (takeLink child parent) = calls.takeLink n m t child parent
+
+-- parties, whose answer is left open, gives `pair` and writes to no table
+unfoldable pub answerTo : (pair : Reply TwoKinds) → (n m : ℕ) → Tables → Request → Result
+answerTo pair n m t openBook = told opening (calls.openBook n m t)
+answerTo pair n m t (edit e) = told editing (editOutcome n m t e)
+answerTo pair n m t (find kind mark) = told finding (calls.find n m t kind mark)
+answerTo pair n m t (parties kind mark) = gives (pairing pair) t
+answerTo pair n m t inspect = told inspecting (calls.inspect n m t)
+answerTo pair n m t refresh = told editing (calls.refresh n m t)
+
+abbrev pub outcome : (pair : Reply TwoKinds) → Call → Tables → Result
+outcome pair call t = answerTo pair (call .n) (call .m) t (call .request)
+
+abbrev pub after : Call → Tables → Tables
+after call t = outcome (refused 0) call t .tables
+
+-- the answer and the tables are the outcome of the call; where parties is asked, what it gives is a reply that it may give
+pub record Carried (call : Call) (before : Tables) (answer : Answer) (left : Tables) : Type 0 where
+  pub pair : Reply TwoKinds
+  pub may : (kind mark : ℕ) → call .request ≡ parties kind mark → PartiesGive (call .n) (call .m) before kind mark pair
+  pub carried : gives answer left ≡ outcome pair call before
+
+-- ---- as the code has them
+
+abbrev pub editOf : CodeEdit → Edit
+editOf (CodeEdit.AddRule kind mark handling) = addRule (kind .0) (mark .0) handling
+editOf (CodeEdit.TakeRule kind mark) = takeRule (kind .0) (mark .0)
+editOf (CodeEdit.AddLink child parent) = addLink (child .0) (parent .0)
+editOf (CodeEdit.TakeLink child parent) = takeLink (child .0) (parent .0)
+
+abbrev pub requestOf : CodeRequest → Request
+requestOf CodeRequest.Open = openBook
+requestOf (CodeRequest.Edit e) = edit (editOf e)
+requestOf (CodeRequest.Find kind mark) = find (kind .0) (mark .0)
+requestOf (CodeRequest.Parties kind mark) = parties (kind .0) (mark .0)
+requestOf CodeRequest.Inspect = inspect
+requestOf CodeRequest.Refresh = refresh
+
+abbrev pub callOf : CodeCall → Call
+callOf call = record { n = call .n; m = call .m; request = requestOf (call .request) }
+
+abbrev pub answered : CodeAnswer → Answer
+answered (CodeAnswer.Opened reply) = opening (opened reply)
+answered (CodeAnswer.Edited reply) = editing (edited reply)
+answered (CodeAnswer.Found reply) = finding (found reply)
+answered (CodeAnswer.Paired reply) = pairing (paired reply)
+answered (CodeAnswer.Inspected reply) = inspecting (inspected reply)
+
+-- ---- lists
+
+unfoldable pub run : {C S : Type 0} → (step : C → S → S) → List C → S → S
+run step [] s = s
+run step (c ∷ cs) s = run step cs (step c s)
 
 abbrev pub Agree : List ℕ → List ℕ → Type 0
 Agree xs ys = (i : ℕ) → getD xs i 0 ≡ getD ys i 0

@@ -13,7 +13,7 @@ use lib.ListN.{getD, replicate, set}
 use Rattle.inheritance.specs.Above.{above}
 use Rattle.inheritance.specs.Lookup.{Left}
 use Rattle.tables.specs.Reply.{Reply, refused, given, Finding, Fault, TwoKinds}
-use Rattle.tables.specs.Tables.{Tables, lent, shaped, upOf, ownOf, entriesOf, all-below, byte-right, kind-free, entry-right, well-linked, sound, differing, tallied}
+use Rattle.tables.specs.Tables.{Tables, lent, tallies, shaped, upOf, ownOf, entriesOf, all-below, byte-right, kind-free, entry-right, links-right, sound, differing, tallied}
 
 pub record Outcome (A : Type 0) : Type 0 where
   pub reply : Reply A
@@ -32,7 +32,7 @@ check number false t next = leaves (refused number) t
 
 -- all four tables are 0
 abbrev pub zeros : ℕ → ℕ → Tables
-zeros n m = lent (replicate (n * n) 0) (replicate (n * m) 0) (replicate (n * m) 0) (replicate 1 0)
+zeros n m = lent (replicate (n * n) 0) (replicate (n * m) 0) (replicate (n * m) 0) (replicate tallies 0)
 
 unfoldable pub openBook : (n m : ℕ) → Tables → Outcome (Unit {0})
 openBook n m t =
@@ -45,8 +45,8 @@ openBook n m t =
 -- entry differs from before
 unfoldable pub accepted : (n m : ℕ) → Tables → (links rules : List ℕ) → Outcome ℕ
 accepted n m t links rules =
-    leaves (given (differing (t .entries) (entriesOf n m links rules)))
-    (lent links rules (entriesOf n m links rules) (tallied (t .tally)))
+    leaves (given (differing (t .entries) (entriesOf n m (upOf n links) rules)))
+    (lent links rules (entriesOf n m (upOf n links) rules) (tallied 0 (t .tally)))
 
 unfoldable pub addRule : (n m : ℕ) → Tables → (kind mark handling : ℕ) → Outcome ℕ
 addRule n m t kind mark handling =
@@ -151,9 +151,11 @@ firstFault true true true byte kind entry = Fault.sound
 -- the lowest place of a link byte above 1; the lowest kind above itself; the lowest place whose entry is not its lookup
 unfoldable pub faultOf : (n m : ℕ) → Tables → Fault
 faultOf n m t =
+    let up = upOf n (t .links) in
+    let entries-right = entry-right n m up (t .rules) (t .entries) in
     firstFault
-    (all-below (byte-right (t .links)) (n * n)) (all-below (kind-free n (t .links)) n) (all-below (entry-right n m t) (n * m))
-    (lowest (byte-right (t .links)) (n * n)) (lowest (kind-free n (t .links)) n) (lowest (entry-right n m t) (n * m))
+    (all-below (byte-right (t .links)) (n * n)) (all-below (kind-free n up) n) (all-below entries-right (n * m))
+    (lowest (byte-right (t .links)) (n * n)) (lowest (kind-free n up) n) (lowest entries-right (n * m))
 
 unfoldable pub inspect : (n m : ℕ) → Tables → Outcome Fault
 inspect n m t =
@@ -164,7 +166,8 @@ inspect n m t =
 
 unfoldable pub refresh : (n m : ℕ) → Tables → Outcome ℕ
 refresh n m t =
+    let up = upOf n (t .links) in
     check 1 (shaped n m t) t
-    (check 5 (well-linked n (t .links)) t
-    (leaves (given (differing (t .entries) (entriesOf n m (t .links) (t .rules))))
-    (lent (t .links) (t .rules) (entriesOf n m (t .links) (t .rules)) (t .tally))))
+    (check 5 (links-right n (t .links)) t
+    (leaves (given (differing (t .entries) (entriesOf n m up (t .rules))))
+    (lent (t .links) (t .rules) (entriesOf n m up (t .rules)) (t .tally))))

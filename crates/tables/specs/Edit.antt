@@ -25,7 +25,7 @@ apart xs ys i = not (eqb (getD xs i 0) (getD ys i 0))
 
 pub record Edited (n m : ℕ) (Touches : Tables → ℕ → ℕ → Type 0) (t t′ : Tables) (returned : ℕ) : Type 0 where
   pub sound-after : sound n m t′ ≡ true
-  pub tally-after : t′ .tally ≡ tallied (t .tally)
+  pub tally-after : t′ .tally ≡ tallied 0 (t .tally)
   -- an entry differs only where the edit can touch it, and that comes out the same before and after
   pub touched : (k j : ℕ) → k < n → j < m → getD (t .entries) (k * m + j) 0 ≢ getD (t′ .entries) (k * m + j) 0 → Touches t k j
   pub same-reading : (k j : ℕ) → k < n → j < m → Touches t k j ↔ Touches t′ k j

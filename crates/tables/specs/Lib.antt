@@ -1,4 +1,3 @@
-pub mod Ask
 pub mod Books
 pub mod Calls
 pub mod Controller

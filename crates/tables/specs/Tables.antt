@@ -1,17 +1,22 @@
 -- The four tables of a book of n kinds and m marks, as lists, and what they say.
---     Tables        links, rules, entries and tally; lent: the tables that a call is lent
---     shaped        n and m are in their ranges, and every table has exactly its length: else refusal 1
---     upOf, ownOf   the links and, for one mark, the own rules
---     entriesOf     every entry worked out from the links and the rules alone
---     sound         document 01's sound tables: every link byte is 0 or 1, no kind is above itself, every entry equals its lookup
---     differing     at how many places two tables differ
---     tallied       one more accepted edit
+--     Tables          links, rules, entries and tally; lent: the tables that a call is lent
+--     tallies         how many numbers the tally has
+--     sized           n and m are in their ranges, and every table has exactly its length; Lengths: the same as facts
+--     shaped          .. of a book's tables: else refusal 1; LengthsOf: the same as facts; Sized: what of it a part of a call asks
+--     upOf, ownOf     the links and, for one mark, the own rules
+--     entriesOf       every entry worked out from the links and the rules alone
+--     links-right     every link byte is 0 or 1, and no kind is above itself
+--     sound           document 01's sound tables: every link byte is 0 or 1, and `sound-over` the links: no kind is above itself, every entry equals
+--                     its lookup
+--     differing       at how many places two tables differ
+--     tallied         one more accepted edit
 -- Assumes nothing.
+use mathlib.Core.Path.{_≡_}
 use mathlib.Core.Bool.{Bool, true, false, _&&_, not}
 use mathlib.Core.List.{List, [], _∷_, _++_}
-use Prim.Native.Nat.{ℕ, zero, suc, _+_, _*_}
+use Prim.Native.Nat.{ℕ, zero, suc, _+_, _*_, _≤_}
 use lib.Dec.{eqb, leb, ltb}
-use lib.ListN.{length, getD}
+use lib.ListN.{length, getD, set}
 use Rattle.inheritance.specs.Above.{above}
 use Rattle.inheritance.specs.Lookup.{lookup}
 use Rattle.tables.specs.Entry.{entryOf}
@@ -26,6 +31,10 @@ pub record Tables : Type 0 where
 abbrev pub lent : (links rules entries tally : List ℕ) → Tables
 lent links rules entries tally = record { links = links; rules = rules; entries = entries; tally = tally }
 
+-- the tally has one number
+abbrev pub tallies : ℕ
+tallies = 1
+
 -- n is 1 to 128, m is 1 to 64, and the tables have exactly these lengths; a number of 16 bits takes `short` elements of its table, and one of
 -- 32 bits `long`
 unfoldable pub sized : (short long n m links rules entries tally : ℕ) → Bool
@@ -34,10 +43,28 @@ sized short long n m links rules entries tally =
     && eqb links (n * n)
     && eqb rules (short * (n * m))
     && eqb entries (short * (n * m))
-    && eqb tally long
+    && eqb tally (long * tallies)
+
+pub record Lengths (short long n m links rules entries tally : ℕ) : Type 0 where
+  pub kinds : (1 ≤ n) × (n ≤ 128)
+  pub marks : (1 ≤ m) × (m ≤ 64)
+  pub links-length : links ≡ n * n
+  pub rules-length : rules ≡ short * (n * m)
+  pub entries-length : entries ≡ short * (n * m)
+  pub tally-length : tally ≡ long * tallies
 
 abbrev pub shaped : ℕ → ℕ → Tables → Bool
 shaped n m t = sized 1 1 n m (length (t .links)) (length (t .rules)) (length (t .entries)) (length (t .tally))
+
+abbrev pub LengthsOf : ℕ → ℕ → Tables → Type 0
+LengthsOf n m t = Lengths 1 1 n m (length (t .links)) (length (t .rules)) (length (t .entries)) (length (t .tally))
+
+-- what a part of a call asks that has rules and entries, and no other table
+pub record Sized (n m : ℕ) (rules entries : List ℕ) : Type 0 where
+  pub kinds : n ≤ 128
+  pub marks : m ≤ 64
+  pub rules-size : length rules ≡ n * m
+  pub entries-size : length entries ≡ n * m
 
 -- place child × n + parent holds 1 for a link
 abbrev pub upOf : ℕ → List ℕ → ℕ → ℕ → Bool
@@ -62,8 +89,8 @@ grid f m zero = []
 grid f m (suc k) = grid f m k ++ listed (f k) m
 
 -- place kind × m + mark holds the entry of the lookup at (kind, mark)
-unfoldable pub entriesOf : ℕ → ℕ → List ℕ → List ℕ → List ℕ
-entriesOf n m links rules = grid (entryAt n m (upOf n links) rules) m n
+unfoldable pub entriesOf : (n m : ℕ) → (up : ℕ → ℕ → Bool) → (rules : List ℕ) → List ℕ
+entriesOf n m up rules = grid (entryAt n m up rules) m n
 
 -- every number below k passes
 unfoldable pub all-below : (ℕ → Bool) → ℕ → Bool
@@ -74,20 +101,32 @@ all-below f (suc k) = all-below f k && f k
 abbrev pub byte-right : List ℕ → ℕ → Bool
 byte-right links i = leb (getD links i 0) 1
 
+-- .. every one
+unfoldable pub bytes-right : ℕ → List ℕ → Bool
+bytes-right n links = all-below (byte-right links) (n * n)
+
 -- a kind is not above itself
-abbrev pub kind-free : ℕ → List ℕ → ℕ → Bool
-kind-free n links c = not (above n (upOf n links) c c)
+abbrev pub kind-free : (n : ℕ) → (up : ℕ → ℕ → Bool) → ℕ → Bool
+kind-free n up c = not (above n up c c)
+
+-- .. none is
+unfoldable pub well-linked : (n : ℕ) → (up : ℕ → ℕ → Bool) → Bool
+well-linked n up = all-below (kind-free n up) n
+
+-- both, of links that are bytes
+abbrev pub links-right : ℕ → List ℕ → Bool
+links-right n links = bytes-right n links && well-linked n (upOf n links)
 
 -- the entry at a place is its lookup
-abbrev pub entry-right : ℕ → ℕ → Tables → ℕ → Bool
-entry-right n m t i = eqb (getD (t .entries) i 0) (getD (entriesOf n m (t .links) (t .rules)) i 0)
+abbrev pub entry-right : (n m : ℕ) → (up : ℕ → ℕ → Bool) → (rules entries : List ℕ) → ℕ → Bool
+entry-right n m up rules entries i = eqb (getD entries i 0) (getD (entriesOf n m up rules) i 0)
 
--- every link byte is 0 or 1, and no kind is above itself
-unfoldable pub well-linked : ℕ → List ℕ → Bool
-well-linked n links = all-below (byte-right links) (n * n) && all-below (kind-free n links) n
+-- .. every one, and no kind is above itself
+unfoldable pub sound-over : (n m : ℕ) → (up : ℕ → ℕ → Bool) → (rules entries : List ℕ) → Bool
+sound-over n m up rules entries = well-linked n up && all-below (entry-right n m up rules entries) (n * m)
 
 unfoldable pub sound : ℕ → ℕ → Tables → Bool
-sound n m t = well-linked n (t .links) && all-below (entry-right n m t) (n * m)
+sound n m t = bytes-right n (t .links) && sound-over n m (upOf n (t .links)) (t .rules) (t .entries)
 
 -- 1 where two numbers differ
 abbrev pub differ : ℕ → ℕ → ℕ
@@ -102,6 +141,6 @@ differing (x ∷ xs) (y ∷ ys) = differ x y + differing xs ys
 abbrev pub saturated : ℕ → ℕ
 saturated x = elim (ltb x 4294967295) [ true ↦ x + 1 | false ↦ x ]
 
-abbrev pub tallied : List ℕ → List ℕ
-tallied [] = []
-tallied (x ∷ xs) = saturated x ∷ xs
+-- the number at a place counts one more
+unfoldable pub tallied : (place : ℕ) → List ℕ → List ℕ
+tallied place tally = set tally place (saturated (getD tally place 0))

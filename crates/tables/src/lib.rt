@@ -1,16 +1,11 @@
-// What the calls answer, the 16-bit entry of a lookup, and the checks that the calls begin with.
-use inheritance::CheckedKind;
-use inheritance::CheckedMark;
+// Calls as values, what they answer, the 16-bit entry of a lookup, and the places of the tables.
 use inheritance::Kind;
 use inheritance::Lookup;
 use inheritance::Mark;
 ghost use mathlib.Core.Path.{_≡_};
 ghost use Prim.Native.Nat.{_+_, _*_, _<_};
-ghost use Rattle.inheritance.specs.Checked.{kindBelow, markBelow};
-ghost use Rattle.tables.specs.Ask.{asked};
 ghost use Rattle.tables.specs.Entry.{entryOf, lookupOf};
 ghost use Rattle.tables.specs.Reply.{refusalNumber};
-ghost use Rattle.tables.specs.Tables.{sized};
 
 // Why a call is refused. Document 01 gives each reason its number.
 pub enum Refusal {
@@ -63,10 +58,38 @@ pub enum Inspected {
     Refused(Refusal),
 }
 
-// A kind and a mark of the book that a call is put to, or its refusal.
-pub enum Asked {
-    At(Kind, Mark),
-    Refused(Refusal),
+// One of the four edits, with any arguments.
+pub enum Edit {
+    AddRule(Kind, Mark, u16),
+    TakeRule(Kind, Mark),
+    AddLink(Kind, Kind),
+    TakeLink(Kind, Kind),
+}
+
+// What is asked of a book: one of the nine calls, with any arguments.
+pub enum Request {
+    Open,
+    Edit(Edit),
+    Find(Kind, Mark),
+    Parties(Kind, Mark),
+    Inspect,
+    Refresh,
+}
+
+// A call as a value: the size of the book that it is put to, and what is asked.
+pub struct Call {
+    pub n: u16,
+    pub m: u16,
+    pub request: Request,
+}
+
+// What a call answers, of whichever kind it is.
+pub enum Answer {
+    Opened(Opened),
+    Edited(Edited),
+    Found(Found),
+    Paired(Pair),
+    Inspected(Inspected),
 }
 
 impl Refusal {
@@ -117,50 +140,26 @@ pub fn encode(lookup: Lookup) -> u16
     }
 }
 
-// Whether n and m are in their ranges and the four tables have exactly their lengths, which are given. A number of 16 bits
-// takes short elements of its table, and one of 32 bits long. The && is for speed: with & in its place the find of the line
-// controllers takes a tenth longer.
-pub fn shape(
-    short: u16,
-    long: u16,
-    n: u16,
-    m: u16,
-    links: usize,
-    rules: usize,
-    entries: usize,
-    tally: usize,
-) -> bool
-    ensures { λ r. ⌜ r ≡ sized short long n m links rules entries tally ⌝ }
+// How many numbers the tally has.
+pub const TALLIES: usize = 1;
+
+// The place of a column in a row of a table, whose rows are so wide.
+fn in_row(row: u16, width: u16, column: u16) -> usize
+    ensures { λ r. ⌜ r ≡ row * width + column ⌝ }
 {
-    let places = short as usize * (n as usize * m as usize);
-    (1 <= n)
-        & (n <= Kind::MOST)
-        & (1 <= m)
-        & (m <= Mark::MOST)
-        & (links == n as usize * n as usize)
-        & (rules == places)
-        && (entries == places) & (tally == long as usize)
+    row as usize * width as usize + column as usize
 }
 
 // Where rules and entries hold what they say of a kind and a mark.
 pub fn place(kind: Kind, mark: Mark, m: u16) -> usize
     ensures { λ r. ⌜ r ≡ kind .0 * m + mark .0 ⌝ }
 {
-    kind.0 as usize * m as usize + mark.0 as usize
+    in_row(kind.0, m, mark.0)
 }
 
-// Refusals 1, 2 and 3, in this order: shaped says whether the tables have their lengths, and kind and mark are any numbers.
-pub fn ask(shaped: bool, n: u16, m: u16, kind: Kind, mark: Mark) -> Asked
-    ensures { λ r. ⌜ r ≡ asked shaped (kindBelow n (kind .0)) (markBelow m (mark .0)) ⌝ }
+// Where links hold what they say of a child and a parent.
+pub fn link_place(child: Kind, parent: Kind, n: u16) -> usize
+    ensures { λ r. ⌜ r ≡ child .0 * n + parent .0 ⌝ }
 {
-    if !shaped {
-        return Asked::Refused(Refusal::Shape);
-    }
-    let CheckedKind::Kind(k) = Kind::new(kind.0, n) else {
-        return Asked::Refused(Refusal::Kind);
-    };
-    let CheckedMark::Mark(j) = Mark::new(mark.0, m) else {
-        return Asked::Refused(Refusal::Mark);
-    };
-    Asked::At(k, j)
+    in_row(child.0, n, parent.0)
 }

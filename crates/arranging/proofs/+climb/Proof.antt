@@ -48,9 +48,6 @@ calls t = (
 )
 
 module _ (t : ℕ) where
-  element-write-states : lts.Need-element-write-states (calls t) (given t) climb.Post Inv-loop μ-loop
-  element-write-states c = omega (arith, c .pre .1 .1 .kind)
-
   next-requires : lts.Need-next-requires (calls t) (given t) climb.Post Inv-loop μ-loop
   next-requires c κs = (omega (arith, c .pre .1 .1 .kind), omega arith)
 
@@ -60,9 +57,6 @@ module _ (t : ℕ) where
       let s = c .next .ensures in
       let m = climbing-none most f p₀ in
       (s .high, s .found, climbing-skip most (f .kind) (marked most f p₀ m) m s)
-
-  element-copy-out-if1 : lts.Need-element-copy-out-if1 (calls t) (given t) climb.Post Inv-loop μ-loop
-  element-copy-out-if1 c = omega arith
 
   climb-requires : lts.Need-climb-requires (calls t) (given t) climb.Post Inv-loop μ-loop
   climb-requires c κs =
@@ -74,9 +68,6 @@ module _ (t : ℕ) where
         subst (λ (j : ℕ). count (unvisited (l .before .loop .states)) (start .args .n) < j) (start .pre .0) (fewer most f p₀ m),
         (most, record { kind = l .loop-test .taken; new = here .if1 .taken }, m .placed),
       )
-
-  element-copy-out-good : lts.Need-element-copy-out-good (calls t) (given t) climb.Post Inv-loop μ-loop
-  element-copy-out-good c = omega arith
 
   -- by the way that the turn went: parent p is gone up from, or was visited already
   turned : (j : lts.Joined1 (calls t) (given t) climb.Post Inv-loop μ-loop)
@@ -98,37 +89,10 @@ module _ (t : ℕ) where
       (λ w. rw (w .1, w .2, w .3, w .4) (m, w .0 .left))
       (j .if1 .came)
 
-  mul-low : lts.Need-mul-low (calls t) (given t) climb.Post Inv-loop μ-loop
-  mul-low c = omega arith
-
-  mul-low-2 : lts.Need-mul-low-2 (calls t) (given t) climb.Post Inv-loop μ-loop
-  mul-low-2 c = omega arith
-
-  element-copy-out-low : lts.Need-element-copy-out-low (calls t) (given t) climb.Post Inv-loop μ-loop
-  element-copy-out-low c = omega arith
-
-  mul-high : lts.Need-mul-high (calls t) (given t) climb.Post Inv-loop μ-loop
-  mul-high c = omega arith
-
-  add-high : lts.Need-add-high (calls t) (given t) climb.Post Inv-loop μ-loop
-  add-high c = omega arith
-
-  mul-high-2 : lts.Need-mul-high-2 (calls t) (given t) climb.Post Inv-loop μ-loop
-  mul-high-2 c = omega arith
-
-  element-copy-out-high : lts.Need-element-copy-out-high (calls t) (given t) climb.Post Inv-loop μ-loop
-  element-copy-out-high c = omega arith
-
-  add-next : lts.Need-add-next (calls t) (given t) climb.Post Inv-loop μ-loop
-  add-next c = omega arith
-
   next-requires-2 : lts.Need-next-requires-2 (calls t) (given t) climb.Post Inv-loop μ-loop
   next-requires-2 c κs =
       let f = c .before .before .before .before .before .before .before .before .pre .1 .1 in
       (omega (arith, f .kind), omega arith)
-
-  loop-less : lts.Need-loop-less (calls t) (given t) climb.Post Inv-loop μ-loop
-  loop-less c = omega (arith, c .next2 .ensures .low)
 
   loop-again : lts.Need-loop-again (calls t) (given t) climb.Post Inv-loop μ-loop
   loop-again c =
@@ -142,27 +106,6 @@ module _ (t : ℕ) where
       let way = marked most f p₀ m in
       let on = climbing-on most (f .kind) way m (l .loop-test .taken) (l .before .loop .inv .1 (omega arith)) vis in
       (s .high, s .found, climbing-skip most (f .kind) way on s)
-
-  mul-reach : lts.Need-mul-reach (calls t) (given t) climb.Post Inv-loop μ-loop
-  mul-reach c = let f = c .before .before .before .pre .1 .1 in omega (arith, f .kind)
-
-  mul-reach-2 : lts.Need-mul-reach-2 (calls t) (given t) climb.Post Inv-loop μ-loop
-  mul-reach-2 c = let f = c .before .before .before .pre .1 .1 in omega (arith, f .kind)
-
-  element-write-reach : lts.Need-element-write-reach (calls t) (given t) climb.Post Inv-loop μ-loop
-  element-write-reach c = let f = c .before .before .before .pre .1 .1 in omega (arith, f .kind)
-
-  mul-reach-3 : lts.Need-mul-reach-3 (calls t) (given t) climb.Post Inv-loop μ-loop
-  mul-reach-3 c = let f = c .before .before .before .pre .1 .1 in omega (arith, f .kind)
-
-  add-reach : lts.Need-add-reach (calls t) (given t) climb.Post Inv-loop μ-loop
-  add-reach c = let f = c .before .before .before .pre .1 .1 in omega (arith, f .kind)
-
-  mul-reach-4 : lts.Need-mul-reach-4 (calls t) (given t) climb.Post Inv-loop μ-loop
-  mul-reach-4 c = let f = c .before .before .before .pre .1 .1 in omega (arith, f .kind)
-
-  element-write-reach-2 : lts.Need-element-write-reach-2 (calls t) (given t) climb.Post Inv-loop μ-loop
-  element-write-reach-2 c = let f = c .before .before .before .pre .1 .1 in omega (arith, f .kind)
 
   -- the words are stored
   stored : (l : lts.After-loop (calls t) (given t) climb.Post Inv-loop μ-loop)
@@ -206,8 +149,10 @@ module _ (t : ℕ) where
 
 pub +climb-spec : {M : Type 1} → statement M
 +climb-spec = close μ λ t. lts.spec (calls t) (given t) climb.Post Inv-loop μ-loop
-    (element-write-states t) (next-requires t) (loop-holds t) (element-copy-out-if1 t) (climb-requires t) (element-copy-out-good t)
-    (mul-low t) (mul-low-2 t) (element-copy-out-low t) (mul-high t) (add-high t) (mul-high-2 t) (element-copy-out-high t)
-    (add-next t) (next-requires-2 t) (loop-less t) (loop-again t)
-    (mul-reach t) (mul-reach-2 t) (element-write-reach t) (mul-reach-3 t) (add-reach t) (mul-reach-4 t) (element-write-reach-2 t)
-    (place-requires t) (returns t) (returns-2 t)
+    (λ c. omega (arith, c .pre .1 .1 .kind)) (next-requires t) (loop-holds t) (λ c. omega arith) (climb-requires t) (λ c. omega arith)
+    (λ c. omega arith) (λ c. omega arith) (λ c. omega arith) (λ c. omega arith) (λ c. omega arith) (λ c. omega arith) (λ c. omega arith)
+    (λ c. omega arith) (next-requires-2 t) (λ c. omega (arith, c .next2 .ensures .low)) (loop-again t)
+    (λ c. omega (arith, c .before .before .before .pre .1 .1 .kind)) (λ c. omega (arith, c .before .before .before .pre .1 .1 .kind))
+    (λ c. omega (arith, c .before .before .before .pre .1 .1 .kind)) (λ c. omega (arith, c .before .before .before .pre .1 .1 .kind))
+    (λ c. omega (arith, c .before .before .before .pre .1 .1 .kind)) (λ c. omega (arith, c .before .before .before .pre .1 .1 .kind))
+    (λ c. omega (arith, c .before .before .before .pre .1 .1 .kind)) (place-requires t) (returns t) (returns-2 t)

@@ -17,21 +17,12 @@ abbrev μ-loop : tie.MeasureT-loop
 loop-holds : tie.Need-loop-holds Inv-loop μ-loop
 loop-holds c = (omega arith, arranging-none _ _ 128 refl (c .pre .1) (c .pre .2))
 
-array-read-if1 : tie.Need-array-read-if1 Inv-loop μ-loop
-array-read-if1 c = omega arith
-
 climb-requires : tie.Need-climb-requires Inv-loop μ-loop
 climb-requires c κs =
     let here = c .before .before .before in
     let l = here .before in
     let start = l .before .before in
     (start .pre .0, record { kind = l .loop-test .taken; new = here .if1 .taken }, l .before .loop .inv .1 .placed)
-
-add-c : tie.Need-add-c Inv-loop μ-loop
-add-c c = omega arith
-
-loop-less : tie.Need-loop-less Inv-loop μ-loop
-loop-less c = omega arith
 
 loop-again : tie.Need-loop-again Inv-loop μ-loop
 loop-again c =
@@ -53,14 +44,4 @@ returns c =
 
 pub arrange-spec : {M : Type 1} → statement M
 arrange-spec =
-    tie.close
-    (tie.spec
-    Inv-loop
-    μ-loop
-    loop-holds
-    array-read-if1
-    climb-requires
-    add-c
-    loop-less
-    loop-again
-    returns)
+    tie.close (tie.spec Inv-loop μ-loop loop-holds (λ c. omega arith) climb-requires (λ c. omega arith) (λ c. omega arith) loop-again returns)

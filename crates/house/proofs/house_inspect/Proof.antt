@@ -5,14 +5,9 @@ use Rattle.house.specs.Packed.{packedFault}
 use Rattle.house.proofs.house_inspect.Statement.{statement}
 use Rattle.house.proofs.house_inspect.Tie as tie
 
-inspect-requires : tie.Need-inspect-requires
-inspect-requires c κs = search needs
-
-pack-inspected-requires : tie.Need-pack-inspected-requires
-pack-inspected-requires c κs = search needs
-
 returns : tie.Need-returns
 returns c = c .pack-inspected .ensures ∙ ap packedFault (c .before .inspect .ensures)
 
 pub house-inspect-spec : {M : Type 1} → statement M
-house-inspect-spec = tie.close (tie.spec inspect-requires pack-inspected-requires returns)
+house-inspect-spec =
+    tie.close (tie.spec (λ c κs. search needs) (λ c κs. search needs) returns)

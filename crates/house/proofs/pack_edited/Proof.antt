@@ -3,31 +3,9 @@ use borrow.Author.Needs.{needs}
 use Rattle.house.proofs.pack_edited.Statement.{statement}
 use Rattle.house.proofs.pack_edited.Tie as tie
 
-enum-known-reply : tie.Need-enum-known-reply
-enum-known-reply c = search needs
-
-cast-result : tie.Need-cast-result
-cast-result c = search needs
-
-enum-known-reply-2 : tie.Need-enum-known-reply-2
-enum-known-reply-2 c = search needs
-
-pack-refusal-requires : tie.Need-pack-refusal-requires
-pack-refusal-requires c κs = search needs
-
-returns : tie.Need-returns
-returns c = search needs
-
 returns-2 : tie.Need-returns-2
 returns-2 c = simp (c .before .before .reply2 .given .1) (c .pack-refusal .ensures)
 
 pub pack-edited-spec : {M : Type 1} → statement M
 pack-edited-spec =
-    tie.close
-    (tie.spec
-    enum-known-reply
-    cast-result
-    enum-known-reply-2
-    pack-refusal-requires
-    returns
-    returns-2)
+    tie.close (tie.spec (λ c. search needs) (λ c. search needs) (λ c. search needs) (λ c κs. search needs) (λ c. search needs) returns-2)

@@ -13,6 +13,7 @@ use Rattle.tables.specs.Controller.{words16, packed}
 use lib.Arith.{digits-lt}
 use Rattle.tables.proofs.ShapeLaws.{and-iff}
 use Rattle.tables.proofs.FindingLaws.{handled-none, handled-some, finding-rule}
+use Rattle.lane.proofs.ByteLaws.{joined-within}
 use Rattle.lane.proofs.PackedLaws.{packed-plain, packed-bad}
 use Rattle.lane.proofs.answer.Statement.{statement}
 use Rattle.lane.proofs.answer.Tie as tie
@@ -23,7 +24,7 @@ start c = c .before .before .before
 entry-within : (c : tie.After-place) → 2 * c .place .result + 1 < length (now (start c .args .entries))
 entry-within c =
     let within = start c .pre in
-    omega (arith, c .place .ensures, within .entries-length, digits-lt (within .kind-below) (within .mark-below))
+    joined-within 256 (now (start c .args .entries)) (c .place .result) (omega (arith, c .place .ensures, within .sizes .entries-size, digits-lt (within .kind-below) (within .mark-below)))
 
 abbrev before-tests : tie.After-word → tie.Start
 before-tests c = start (c .before)
@@ -52,7 +53,7 @@ handling-within c =
     let within = before-tests (c .before .before) .pre in
     let here = rule-here (c .before) in
     let below : c .before .before .word .result - 1 < before-tests (c .before .before) .args .n = omega arith in
-    omega (arith, c .place2 .ensures, within .rules-length, digits-lt below (within .mark-below))
+    joined-within 256 (now (before-tests (c .before .before) .args .rules)) (c .place2 .result) (omega (arith, c .place2 .ensures, within .sizes .rules-size, digits-lt below (within .mark-below)))
 
 abbrev in-rule : tie.After-word2 → tie.After-word
 in-rule c = c .before .before .before
@@ -65,41 +66,14 @@ is-rule c =
     ∙ finding-rule (before-tests e .args .n) (own e) (e .word .result) (here .0) (here .1)
     ∙ rw (← c .before .place2 .ensures, ← c .word2 .ensures) refl
 
-place-requires : tie.Need-place-requires
-place-requires c κs = search needs
-
 word-requires : tie.Need-word-requires
 word-requires c κs = entry-within c
 
 sub-t15 : tie.Need-sub-t15
 sub-t15 c = rule-here c .0
 
-place-requires-2 : tie.Need-place-requires-2
-place-requires-2 c κs = search needs
-
 word-requires-2 : tie.Need-word-requires-2
 word-requires-2 c κs = handling-within c
-
-cast-result : tie.Need-cast-result
-cast-result c = search needs
-
-mul-result : tie.Need-mul-result
-mul-result c = search needs
-
-cast-result-2 : tie.Need-cast-result-2
-cast-result-2 c = search needs
-
-add-result : tie.Need-add-result
-add-result c = search needs
-
-add-if3 : tie.Need-add-if3
-add-if3 c = search needs
-
-cast-result-3 : tie.Need-cast-result-3
-cast-result-3 c = search needs
-
-mul-result-2 : tie.Need-mul-result-2
-mul-result-2 c = search needs
 
 returns : tie.Need-returns
 returns c = sym (ap packed (is-rule (c .before) ∙ handled-none _ _ (c .if2 .taken)))
@@ -114,7 +88,7 @@ returns-3 : tie.Need-returns-3
 returns-3 c =
     let e = c .before .before in
     let n = before-tests e .args .n in
-    sym (ap packed (is-read e) ∙ packed-plain n (e .word .result) (own e) (before-tests e .pre .kinds) (c .if3 .taken))
+    sym (ap packed (is-read e) ∙ packed-plain n (e .word .result) (own e) (before-tests e .pre .sizes .kinds) (c .if3 .taken))
 
 returns-4 : tie.Need-returns-4
 returns-4 c =
@@ -125,20 +99,5 @@ returns-4 c =
 pub answer-spec : {M : Type 1} → statement M
 answer-spec =
     tie.close
-    (tie.spec
-    place-requires
-    word-requires
-    sub-t15
-    place-requires-2
-    word-requires-2
-    cast-result
-    mul-result
-    cast-result-2
-    add-result
-    add-if3
-    cast-result-3
-    mul-result-2
-    returns
-    returns-2
-    returns-3
-    returns-4)
+    (tie.spec (λ c κs. search needs) word-requires sub-t15 (λ c κs. search needs) word-requires-2 (λ c. search needs) (λ c. search needs)
+    (λ c. search needs) (λ c. search needs) (λ c. search needs) (λ c. search needs) (λ c. search needs) returns returns-2 returns-3 returns-4)

@@ -1,16 +1,14 @@
 -- `lane::lane_find` meets its contract: it answers by the cases of `asked`, and where that lets the call through, kind, mark and
 -- tables are as `answer` requires. Assumes nothing.
 use mathlib.Core.Path.{_≡_, sym, _∙_}
-use lib.ListN.{length}
 use denote.Ref.{now}
 use borrow.Author.Needs.{needs}
 use Rattle.inheritance.specs.Checked.{kindBelow, markBelow}
-use Rattle.tables.specs.declared.Asked.{Asked}
-use Rattle.tables.specs.Ask.{asked}
+use Rattle.asking.specs.declared.Asked.{Asked}
+use Rattle.asking.specs.Ask.{askedKind, asked}
 use Rattle.tables.specs.Tables.{Tables, lent}
 use Rattle.tables.specs.Controller.{shaped-bytes}
-use Rattle.tables.proofs.ShapeLaws.{asked-within}
-use Rattle.lane.proofs.PackedLaws.{packed-at, packed-refused}
+use Rattle.lane.proofs.PackedLaws.{bytes-within, packed-at, packed-refused}
 use Rattle.lane.proofs.lane_find.Statement.{statement}
 use Rattle.lane.proofs.lane_find.Tie as tie
 
@@ -20,12 +18,12 @@ start c = c .before .before .before .before .before .before
 abbrev book : tie.After-ask → Tables
 book c = let a = start c .args in lent (now (a .links)) (now (a .rules)) (now (a .entries)) (now (a .tally))
 
-is-shaped : (c : tie.After-ask) → shaped-bytes (start c .args .n) (start c .args .m) (book c) ≡ c .before .shape .result
-is-shaped c = sym (c .before .shape .ensures)
+is-shaped : (c : tie.After-ask) → shaped-bytes (start c .args .n) (start c .args .m) (book c) ≡ c .before .shape-bytes .result
+is-shaped c = sym (c .before .shape-bytes .ensures)
 
 -- what refusals 1, 2 and 3 come to
 abbrev checked : tie.After-ask → Asked
-checked c = let a = start c .args in asked (shaped-bytes (a .n) (a .m) (book c)) (kindBelow (a .n) (a .kind)) (markBelow (a .m) (a .mark))
+checked c = let a = start c .args in asked (askedKind (shaped-bytes (a .n) (a .m) (book c)) (kindBelow (a .n) (a .kind))) (markBelow (a .m) (a .mark))
 
 is-asked : (c : tie.After-ask) → checked c ≡ c .ask .result
 is-asked c = rw (is-shaped c) (sym (c .ask .ensures))
@@ -33,28 +31,10 @@ is-asked c = rw (is-shaped c) (sym (c .ask .ensures))
 is-at : (c : tie.After-k) → checked (c .before .before) ≡ Asked.At (c .k .given .0 .0) (c .k .given .0 .1 .0)
 is-at c = is-asked (c .before .before) ∙ c .k .given .1
 
-shape-requires : tie.Need-shape-requires
-shape-requires c κs = search needs
-
-ask-requires : tie.Need-ask-requires
-ask-requires c κs = search needs
-
-enum-known-why : tie.Need-enum-known-why
-enum-known-why c = search needs
-
-number-requires : tie.Need-number-requires
-number-requires c κs = search needs
-
-cast-result : tie.Need-cast-result
-cast-result c = search needs
-
-enum-known-k : tie.Need-enum-known-k
-enum-known-k c = search needs
-
 answer-requires : tie.Need-answer-requires
 answer-requires c κs =
     let a = start (c .before .before .before) .args in
-    asked-within 2 4 (a .n) (a .m) (length (now (a .links))) _ _ (length (now (a .tally))) (a .kind) (a .mark) (is-at (c .before))
+    bytes-within (a .n) (a .m) (book (c .before .before .before)) (a .kind) (a .mark) (is-at (c .before))
 
 returns : tie.Need-returns
 returns c =
@@ -71,13 +51,5 @@ returns-2 c =
 pub lane-find-spec : {M : Type 1} → statement M
 lane-find-spec =
     tie.close
-    (tie.spec
-    shape-requires
-    ask-requires
-    enum-known-why
-    number-requires
-    cast-result
-    enum-known-k
-    answer-requires
-    returns
-    returns-2)
+    (tie.spec (λ c κs. search needs) (λ c κs. search needs) (λ c. search needs) (λ c κs. search needs) (λ c. search needs) (λ c. search needs)
+    answer-requires returns returns-2)

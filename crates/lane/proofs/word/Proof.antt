@@ -8,23 +8,8 @@ use Rattle.lane.proofs.ByteLaws.{joined-at}
 use Rattle.lane.proofs.word.Statement.{statement}
 use Rattle.lane.proofs.word.Tie as tie
 
-mul-low : tie.Need-mul-low
-mul-low c = search needs
-
-shared-slice-read-low : tie.Need-shared-slice-read-low
-shared-slice-read-low c = search needs
-
 cast-low : tie.Need-cast-low
 cast-low c = omega (arith, c .shared-slice-known .given (2 * c .before .args .i))
-
-mul-high : tie.Need-mul-high
-mul-high c = search needs
-
-add-high : tie.Need-add-high
-add-high c = search needs
-
-shared-slice-read-high : tie.Need-shared-slice-read-high
-shared-slice-read-high c = search needs
 
 cast-high : tie.Need-cast-high
 cast-high c = omega (arith, c .shared-slice-known2 .given (2 * c .before .before .args .i + 1))
@@ -47,14 +32,5 @@ returns c =
 pub word-spec : {M : Type 1} → statement M
 word-spec =
     tie.close
-    (tie.spec
-    mul-low
-    shared-slice-read-low
-    cast-low
-    mul-high
-    add-high
-    shared-slice-read-high
-    cast-high
-    mul-result
-    add-result
-    returns)
+    (tie.spec (λ c. search needs) (λ c. search needs) cast-low (λ c. search needs) (λ c. search needs) (λ c. search needs) cast-high mul-result
+    add-result returns)

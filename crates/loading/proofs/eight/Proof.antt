@@ -8,9 +8,6 @@ use Rattle.loading.proofs.eight.Tie as tie
 four-requires : tie.Need-four-requires
 four-requires c κs = (omega arith, λ j l. c .before .pre .1 j (omega arith))
 
-add-four : tie.Need-add-four
-add-four c = search needs
-
 four-requires-2 : tie.Need-four-requires-2
 four-requires-2 c κs =
     let s = c .before .before in
@@ -20,4 +17,5 @@ returns : tie.Need-returns
 returns c = spaced-join _ _ 4 _ _ (omega arith) (c .before .four .ensures) (c .four2 .ensures)
 
 pub eight-spec : {M : Type 1} → statement M
-eight-spec = tie.close (tie.spec four-requires add-four four-requires-2 returns)
+eight-spec =
+    tie.close (tie.spec four-requires (λ c. search needs) four-requires-2 returns)

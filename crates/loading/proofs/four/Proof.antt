@@ -8,9 +8,6 @@ use Rattle.loading.proofs.four.Tie as tie
 two-requires : tie.Need-two-requires
 two-requires c κs = (omega arith, λ j l. c .before .pre .1 j (omega arith))
 
-add-two : tie.Need-add-two
-add-two c = search needs
-
 two-requires-2 : tie.Need-two-requires-2
 two-requires-2 c κs =
     let s = c .before .before in
@@ -20,4 +17,5 @@ returns : tie.Need-returns
 returns c = spaced-join _ _ 2 _ _ (omega arith) (c .before .two .ensures) (c .two2 .ensures)
 
 pub four-spec : {M : Type 1} → statement M
-four-spec = tie.close (tie.spec two-requires add-two two-requires-2 returns)
+four-spec =
+    tie.close (tie.spec two-requires (λ c. search needs) two-requires-2 returns)

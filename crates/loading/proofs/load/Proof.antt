@@ -28,12 +28,6 @@ load-rest-requires c κs =
     let s = c .before .before .before .before .before .before in
     (s .pre .0, s .pre .1, omega arith, c .before .load-words .ensures)
 
-add-c : tie.Need-add-c Inv-loop μ-loop
-add-c c = omega arith
-
-loop-less : tie.Need-loop-less Inv-loop μ-loop
-loop-less c = omega arith
-
 loop-again : tie.Need-loop-again Inv-loop μ-loop
 loop-again c = (omega arith, c .load-rest .ensures)
 
@@ -44,5 +38,4 @@ returns c =
 
 pub load-spec : {M : Type 1} → statement M
 load-spec =
-    tie.close
-    (tie.spec Inv-loop μ-loop loop-holds load-words-requires load-rest-requires add-c loop-less loop-again returns)
+    tie.close (tie.spec Inv-loop μ-loop loop-holds load-words-requires load-rest-requires (λ c. omega arith) (λ c. omega arith) loop-again returns)

@@ -1,8 +1,10 @@
 -- `loading::load_rest` meets its contract. The loop's invariant: row c has its links below p. Assumes nothing.
 use mathlib.Core.Path.{_≡_}
 use mathlib.Core.Logic.{⊎-elim}
-use Prim.Native.Nat.{_-_, _≤_}
+use Prim.Native.Nat.{_+_, _*_, _-_, _≤_}
 use native.Mathlib.Omega.{arith}
+use denote.Ref.{now}
+use lib.ListN.{length}
 use Rattle.loading.specs.Loaded.{Filled, before}
 use Rattle.loading.proofs.Filling.{filled-mark, filled-keep, filled-end, row-within}
 use Rattle.loading.proofs.load_rest.Statement.{statement}
@@ -14,29 +16,14 @@ Inv-loop links n c rows₀ p₀ rows p = (p ≤ n) × Filled (before c p) n link
 abbrev μ-loop : tie.MeasureT-loop
 μ-loop links n c rows₀ p₀ rows p = n - p
 
-mul-p : tie.Need-mul-p Inv-loop μ-loop
-mul-p c = omega arith
-
 loop-holds : tie.Need-loop-holds Inv-loop μ-loop
 loop-holds c = (omega arith, c .before .pre .3)
 
-mul-if1 : tie.Need-mul-if1 Inv-loop μ-loop
-mul-if1 c = let s = c .before .before .before in omega (arith, row-within (s .args .n) (s .args .c) (s .pre .0) (s .pre .2))
-
-add-if1 : tie.Need-add-if1 Inv-loop μ-loop
-add-if1 c = let s = c .before .before .before in omega (arith, row-within (s .args .n) (s .args .c) (s .pre .0) (s .pre .2))
-
-shared-slice-read-if1 : tie.Need-shared-slice-read-if1 Inv-loop μ-loop
-shared-slice-read-if1 c = let s = c .before .before .before .before in omega (arith, row-within (s .args .n) (s .args .c) (s .pre .0) (s .pre .2))
+within : (s : tie.Start Inv-loop μ-loop) → s .args .c * s .args .n + s .args .n ≤ length (now (s .args .links))
+within s = row-within (s .args .n) (s .args .c) (s .pre .0) (s .pre .2)
 
 mark-requires : tie.Need-mark-requires Inv-loop μ-loop
 mark-requires c κs = (c .before .before .before .before .loop .inv .1 .long, omega arith, omega arith)
-
-add-p : tie.Need-add-p Inv-loop μ-loop
-add-p c = omega arith
-
-loop-less : tie.Need-loop-less Inv-loop μ-loop
-loop-less c = omega arith
 
 loop-again : tie.Need-loop-again Inv-loop μ-loop
 loop-again c =
@@ -57,16 +44,6 @@ returns c =
 pub load-rest-spec : {M : Type 1} → statement M
 load-rest-spec =
     tie.close
-    (tie.spec
-    Inv-loop
-    μ-loop
-    mul-p
-    loop-holds
-    mul-if1
-    add-if1
-    shared-slice-read-if1
-    mark-requires
-    add-p
-    loop-less
-    loop-again
-    returns)
+    (tie.spec Inv-loop μ-loop (λ c. omega arith) loop-holds (λ c. omega (arith, within (c .before .before .before)))
+    (λ c. omega (arith, within (c .before .before .before))) (λ c. omega (arith, within (c .before .before .before .before))) mark-requires
+    (λ c. omega arith) (λ c. omega arith) loop-again returns)

@@ -7,21 +7,6 @@ use borrow.Author.Needs.{needs}
 use Rattle.loading.proofs.two.Statement.{statement}
 use Rattle.loading.proofs.two.Tie as tie
 
-shared-slice-read-wide : tie.Need-shared-slice-read-wide
-shared-slice-read-wide c = search needs
-
-wide-requires : tie.Need-wide-requires
-wide-requires c κs = search needs
-
-add-wide : tie.Need-add-wide
-add-wide c = search needs
-
-shared-slice-read-wide-2 : tie.Need-shared-slice-read-wide-2
-shared-slice-read-wide-2 c = search needs
-
-wide-requires-2 : tie.Need-wide-requires-2
-wide-requires-2 c κs = search needs
-
 returns : tie.Need-returns
 returns c =
     let s = c .before .before .before .before .before in
@@ -32,5 +17,4 @@ returns c =
 
 pub two-spec : {M : Type 1} → statement M
 two-spec =
-    tie.close
-    (tie.spec shared-slice-read-wide wide-requires add-wide shared-slice-read-wide-2 wide-requires-2 returns)
+    tie.close (tie.spec (λ c. search needs) (λ c κs. search needs) (λ c. search needs) (λ c. search needs) (λ c κs. search needs) returns)

@@ -16,28 +16,10 @@ abbrev μ-loop : tie.MeasureT-loop
 loop-holds : tie.Need-loop-holds Inv-loop μ-loop
 loop-holds c = (omega arith, word-none _ _)
 
-mul-fold : tie.Need-mul-fold Inv-loop μ-loop
-mul-fold c = omega arith
-
-add-fold : tie.Need-add-fold Inv-loop μ-loop
-add-fold c = omega arith
-
 fold-requires : tie.Need-fold-requires Inv-loop μ-loop
 fold-requires c κs =
     let s = c .before .before .before in
     (omega arith, flags-part (s .args .links .now) (s .args .i) (8 * s .args .k) (8 * c .before .loop .q) 8 (s .pre .2) (omega arith))
-
-mul-w : tie.Need-mul-w Inv-loop μ-loop
-mul-w c = omega arith
-
-shl-w : tie.Need-shl-w Inv-loop μ-loop
-shl-w c = omega arith
-
-add-q : tie.Need-add-q Inv-loop μ-loop
-add-q c = omega arith
-
-loop-less : tie.Need-loop-less Inv-loop μ-loop
-loop-less c = omega arith
 
 loop-again : tie.Need-loop-again Inv-loop μ-loop
 loop-again c = (omega arith, word-more _ _ _ _ _ (omega arith) (c .before .before .loop .inv .1) (c .fold .ensures))
@@ -50,16 +32,5 @@ returns c =
 pub word-spec : {M : Type 1} → statement M
 word-spec =
     tie.close
-    (tie.spec
-    Inv-loop
-    μ-loop
-    loop-holds
-    mul-fold
-    add-fold
-    fold-requires
-    mul-w
-    shl-w
-    add-q
-    loop-less
-    loop-again
-    returns)
+    (tie.spec Inv-loop μ-loop loop-holds (λ c. omega arith) (λ c. omega arith) fold-requires (λ c. omega arith) (λ c. omega arith) (λ c. omega arith)
+    (λ c. omega arith) loop-again returns)

@@ -22,13 +22,13 @@ use Rattle.propagation.proofs.+spread.Tie.{close}
 abbrev μ : Measures 3 kinds.ps ℕ
 μ κs a = unvisited (a .1 .1 .1 .1 .0 .now)
 
--- c is a child of k if it is a kind
+-- the walk goes on from k to c if c is a kind
 abbrev Inv-loop : lts.InvT-loop
-Inv-loop children n stops k visited₀ c₀ visited c =
-    (c ≤ 128) × (c < 128 → bit children k c ≡ true) × Passing n (under children) (stop stops) k visited₀ visited (min c n)
+Inv-loop onward n stops k visited₀ c₀ visited c =
+    (c ≤ 128) × (c < 128 → bit onward k c ≡ true) × Passing n (under onward) (stop stops) k visited₀ visited (min c n)
 
 abbrev μ-loop : lts.MeasureT-loop
-μ-loop children n stops k visited₀ c₀ visited c = n - c
+μ-loop onward n stops k visited₀ c₀ visited c = n - c
 
 -- what `spread` is given at the measure t, and what the calls in it ask and ensure, its own below t
 abbrev given : ℕ → In 3 kinds.ps
@@ -38,20 +38,8 @@ abbrev calls : ℕ → lts.Claims
 calls t = (next.Asked, next.Learnt, and 3 kinds.ps (falls 3 kinds.ps _<_ μ t) spread.Pre, spread.Post)
 
 module _ (t : ℕ) where
-  element-write-visited : lts.Need-element-write-visited (calls t) (given t) spread.Post Inv-loop μ-loop
-  element-write-visited c = omega arith
-
-  next-requires : lts.Need-next-requires (calls t) (given t) spread.Post Inv-loop μ-loop
-  next-requires c κs = omega arith
-
   loop-holds : lts.Need-loop-holds (calls t) (given t) spread.Post Inv-loop μ-loop
   loop-holds c = let s = c .next .ensures in (s .high, s .found, pass-next s (pass-none (c .before .pre .1)))
-
-  element-copy-out-if1 : lts.Need-element-copy-out-if1 (calls t) (given t) spread.Post Inv-loop μ-loop
-  element-copy-out-if1 c = omega arith
-
-  element-copy-out-if1-2 : lts.Need-element-copy-out-if1-2 (calls t) (given t) spread.Post Inv-loop μ-loop
-  element-copy-out-if1-2 c = omega arith
 
   spread-requires : lts.Need-spread-requires (calls t) (given t) spread.Post Inv-loop μ-loop
   spread-requires c κs =
@@ -63,15 +51,6 @@ module _ (t : ℕ) where
         subst (λ (j : ℕ). unvisited (l .before .loop .visited) < j) (p .0) (fewer-passing (p .1) s),
         ready (p .1) s (l .loop-test .taken) (eqb-true _ 0 (both .0)),
       )
-
-  add-next : lts.Need-add-next (calls t) (given t) spread.Post Inv-loop μ-loop
-  add-next c = omega arith
-
-  next-requires-2 : lts.Need-next-requires-2 (calls t) (given t) spread.Post Inv-loop μ-loop
-  next-requires-2 c κs = omega arith
-
-  loop-less : lts.Need-loop-less (calls t) (given t) spread.Post Inv-loop μ-loop
-  loop-less c = omega (arith, c .next2 .ensures .low)
 
   -- by the way that the turn went: a walk from the child, or a child that is visited already or is a stop
   loop-again : lts.Need-loop-again (calls t) (given t) spread.Post Inv-loop μ-loop
@@ -102,5 +81,5 @@ module _ (t : ℕ) where
 
 pub +spread-spec : {M : Type 1} → statement M
 +spread-spec = close μ λ t. lts.spec (calls t) (given t) spread.Post Inv-loop μ-loop
-    (element-write-visited t) (next-requires t) (loop-holds t) (element-copy-out-if1 t) (element-copy-out-if1-2 t) (spread-requires t) (add-next t)
-    (next-requires-2 t) (loop-less t) (loop-again t) (returns t)
+    (λ c. omega arith) (λ c κs. omega arith) (loop-holds t) (λ c. omega arith) (λ c. omega arith) (spread-requires t) (λ c. omega arith)
+    (λ c κs. omega arith) (λ c. omega (arith, c .next2 .ensures .low)) (loop-again t) (returns t)

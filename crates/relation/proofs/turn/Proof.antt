@@ -19,12 +19,6 @@ loop-holds c = (omega arith, turn-none _ (c .pre .1))
 turn-row-requires : tie.Need-turn-row-requires Inv-loop μ-loop
 turn-row-requires c κs = (omega arith, c .before .before .loop .inv .1 .long)
 
-add-c : tie.Need-add-c Inv-loop μ-loop
-add-c c = omega arith
-
-loop-less : tie.Need-loop-less Inv-loop μ-loop
-loop-less c = omega arith
-
 loop-again : tie.Need-loop-again Inv-loop μ-loop
 loop-again c = (omega arith, turn-more _ _ (c .before .before .before .loop .inv .1) (c .turn-row .ensures))
 
@@ -34,4 +28,5 @@ returns c =
     turned _ (c .before .before .pre .1) (rw end at (c .before .loop .inv .1))
 
 pub turn-spec : {M : Type 1} → statement M
-turn-spec = tie.close (tie.spec Inv-loop μ-loop loop-holds turn-row-requires add-c loop-less loop-again returns)
+turn-spec =
+    tie.close (tie.spec Inv-loop μ-loop loop-holds turn-row-requires (λ c. omega arith) (λ c. omega arith) loop-again returns)

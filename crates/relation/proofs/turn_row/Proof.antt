@@ -5,30 +5,6 @@ use borrow.Author.Needs.{needs}
 use Rattle.relation.proofs.turn_row.Statement.{statement}
 use Rattle.relation.proofs.turn_row.Tie as tie
 
-mul-turn-word : tie.Need-mul-turn-word
-mul-turn-word c = search needs
-
-mul-turn-word-2 : tie.Need-mul-turn-word-2
-mul-turn-word-2 c = search needs
-
-element-copy-out-turn-word : tie.Need-element-copy-out-turn-word
-element-copy-out-turn-word c = search needs
-
-turn-word-requires : tie.Need-turn-word-requires
-turn-word-requires c κs = search needs
-
-mul-turn-word-3 : tie.Need-mul-turn-word-3
-mul-turn-word-3 c = search needs
-
-add-turn-word : tie.Need-add-turn-word
-add-turn-word c = search needs
-
-mul-turn-word-4 : tie.Need-mul-turn-word-4
-mul-turn-word-4 c = search needs
-
-element-copy-out-turn-word-2 : tie.Need-element-copy-out-turn-word-2
-element-copy-out-turn-word-2 c = search needs
-
 turn-word-requires-2 : tie.Need-turn-word-requires-2
 turn-word-requires-2 c κs = (omega arith, omega arith, c .before .before .turn-word .ensures .long)
 
@@ -38,14 +14,5 @@ returns c = row-turned _ _ (c .before .before .before .turn-word .ensures) (c .t
 pub turn-row-spec : {M : Type 1} → statement M
 turn-row-spec =
     tie.close
-    (tie.spec
-    mul-turn-word
-    mul-turn-word-2
-    element-copy-out-turn-word
-    turn-word-requires
-    mul-turn-word-3
-    add-turn-word
-    mul-turn-word-4
-    element-copy-out-turn-word-2
-    turn-word-requires-2
-    returns)
+    (tie.spec (λ c. search needs) (λ c. search needs) (λ c. search needs) (λ c κs. search needs) (λ c. search needs) (λ c. search needs)
+    (λ c. search needs) (λ c. search needs) turn-word-requires-2 returns)

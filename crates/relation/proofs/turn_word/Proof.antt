@@ -22,18 +22,12 @@ loop-holds c = word-none _ _ _ (c .fits .w .fits) (c .pre .2)
 cast-mark : tie.Need-cast-mark Inv-loop μ-loop
 cast-mark c = record { fits = lt-of-le-of-lt (trailing-le 64 _) (omega arith) }
 
-add-mark : tie.Need-add-mark Inv-loop μ-loop
-add-mark c = omega (arith, trailing-le 64 (c .before .before .loop .left))
-
 mark-requires : tie.Need-mark-requires Inv-loop μ-loop
 mark-requires c κs =
     let l = c .before .before .loop in
     let some : 0 < l .left = omega (arith, c .before .loop-test .taken) in
     let less = zeros-lt 64 (l .left) (l .inv .small) some in
     (l .inv .added .long, omega arith, omega arith)
-
-sub-left : tie.Need-sub-left Inv-loop μ-loop
-sub-left c = omega (arith, c .before .before .loop-test .taken)
 
 loop-less : tie.Need-loop-less Inv-loop μ-loop
 loop-less c =
@@ -51,14 +45,5 @@ returns c = word-turned _ _ _ (rw (c .loop-test .left) at (c .before .loop .inv)
 pub turn-word-spec : {M : Type 1} → statement M
 turn-word-spec =
     tie.close
-    (tie.spec
-    Inv-loop
-    μ-loop
-    loop-holds
-    cast-mark
-    add-mark
-    mark-requires
-    sub-left
-    loop-less
-    loop-again
-    returns)
+    (tie.spec Inv-loop μ-loop loop-holds cast-mark (λ c. omega (arith, trailing-le 64 (c .before .before .loop .left))) mark-requires
+    (λ c. omega (arith, c .before .before .loop-test .taken)) loop-less loop-again returns)

@@ -1,5 +1,5 @@
 -- `rulebook::add` meets its contract. Assumes nothing.
-use mathlib.Core.Path.{sym, ap, _∙_}
+use mathlib.Core.Path.{sym, _∙_}
 use native.Mathlib.Omega.{arith}
 use borrow.Author.Needs.{needs}
 use lib.ListN.{length-take}
@@ -7,24 +7,6 @@ use lib.Seq.{length-take-le}
 use Rattle.rulebook.proofs.BlockLaws.{paste-front}
 use Rattle.rulebook.proofs.add.Statement.{statement}
 use Rattle.rulebook.proofs.add.Tie as tie
-
-sub-least : tie.Need-sub-least
-sub-least c = search needs
-
-least-requires : tie.Need-least-requires
-least-requires c κs = search needs
-
-slice-aggregate-copy : tie.Need-slice-aggregate-copy
-slice-aggregate-copy c = sym (length-take-le _ _ (search needs))
-
-copy-requires : tie.Need-copy-requires
-copy-requires c κs = simp length-take (omega arith)
-
-add-result : tie.Need-add-result
-add-result c = search needs
-
-same-length : tie.Need-same-length
-same-length c = search needs
 
 returns : tie.Need-returns
 returns c =
@@ -37,10 +19,10 @@ pub add-spec : {M : Type 1} → statement M
 add-spec =
     tie.close
     (tie.spec
-    sub-least
-    least-requires
-    slice-aggregate-copy
-    copy-requires
-    add-result
-    same-length
+    (λ c. search needs)
+    (λ c κs. search needs)
+    (λ c. sym (length-take-le _ _ (search needs)))
+    (λ c κs. simp length-take (omega arith))
+    (λ c. search needs)
+    (λ c. search needs)
     returns)

@@ -18,21 +18,6 @@ abbrev μ-loop : tie.MeasureT-loop
 loop-holds : tie.Need-loop-holds Inv-loop μ-loop
 loop-holds c = (search needs, search needs, paste-zero _ (c .args .at) (c .args .part .now))
 
-shared-slice-read-buffer : tie.Need-shared-slice-read-buffer Inv-loop μ-loop
-shared-slice-read-buffer c = search needs
-
-add-buffer : tie.Need-add-buffer Inv-loop μ-loop
-add-buffer c = search needs
-
-slice-write-buffer : tie.Need-slice-write-buffer Inv-loop μ-loop
-slice-write-buffer c = search needs
-
-add-i : tie.Need-add-i Inv-loop μ-loop
-add-i c = search needs
-
-loop-less : tie.Need-loop-less Inv-loop μ-loop
-loop-less c = search needs
-
 loop-again : tie.Need-loop-again Inv-loop μ-loop
 loop-again c = (
   search needs,
@@ -40,9 +25,6 @@ loop-again c = (
   rw (c .before .before .loop .inv .2, add-one)
       (paste-suc (c .before .before .before .args .buffer .now) (c .before .before .before .args .at) (c .before .before .before .args .part .now) (c .before .before .loop .i) 0 (omega arith) (omega arith)),
 )
-
-same-length : tie.Need-same-length Inv-loop μ-loop
-same-length c = search needs
 
 returns : tie.Need-returns Inv-loop μ-loop
 returns c =
@@ -56,11 +38,11 @@ copy-spec =
     Inv-loop
     μ-loop
     loop-holds
-    shared-slice-read-buffer
-    add-buffer
-    slice-write-buffer
-    add-i
-    loop-less
+    (λ c. search needs)
+    (λ c. search needs)
+    (λ c. search needs)
+    (λ c. search needs)
+    (λ c. search needs)
     loop-again
-    same-length
+    (λ c. search needs)
     returns)

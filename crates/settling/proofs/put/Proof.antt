@@ -8,24 +8,6 @@ use borrow.Author.Needs.{needs}
 use Rattle.settling.proofs.put.Statement.{statement}
 use Rattle.settling.proofs.put.Tie as tie
 
-mul-was : tie.Need-mul-was
-mul-was c = search needs
-
-slice-read-was : tie.Need-slice-read-was
-slice-read-was c = search needs
-
-mul-entries : tie.Need-mul-entries
-mul-entries c = search needs
-
-slice-write-entries : tie.Need-slice-write-entries
-slice-write-entries c = search needs
-
-cast-result : tie.Need-cast-result
-cast-result c = search needs
-
-same-length : tie.Need-same-length
-same-length c = search needs
-
 returns : tie.Need-returns
 returns c =
     let a = c .before .args in
@@ -35,11 +17,4 @@ returns c =
 pub put-spec : {M : Type 1} → statement M
 put-spec =
     tie.close
-    (tie.spec
-    mul-was
-    slice-read-was
-    mul-entries
-    slice-write-entries
-    cast-result
-    same-length
-    returns)
+    (tie.spec (λ c. search needs) (λ c. search needs) (λ c. search needs) (λ c. search needs) (λ c. search needs) (λ c. search needs) returns)

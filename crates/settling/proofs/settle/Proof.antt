@@ -1,9 +1,11 @@
 -- `settling::settle` meets its contract. The loop's invariant: the kinds at the last t places are worked out. Assumes nothing.
 use mathlib.Core.Path.{_≡_, _∙_}
 use mathlib.Core.Logic.{⊎-elim}
-use Prim.Native.Nat.{_-_, _≤_}
+use Prim.Native.Nat.{_-_, _<_, _≤_}
 use native.Mathlib.Nat.{mul-le-mul}
 use native.Mathlib.Omega.{arith}
+use denote.Ref.{now}
+use lib.ListN.{getD}
 use Rattle.relation.specs.Bit.{bit}
 use Rattle.settling.specs.Settled.{Settling}
 use Rattle.settling.proofs.Order.{settling-none, settling-kind, settling-skip, settling-few, settled}
@@ -16,52 +18,43 @@ Inv-loop rows order reach ruled n m lo hi visited rules entries₀ count₀ t₀
 abbrev μ-loop : tie.MeasureT-loop
 μ-loop rows order reach ruled n m lo hi visited rules entries₀ count₀ t₀ entries count t = n - t
 
+abbrev start : tie.At-loop Inv-loop μ-loop → tie.Start Inv-loop μ-loop
+start l = l .before .before .before
+
+-- where the turn began that has come to the test
+abbrev began : tie.After-if12 Inv-loop μ-loop → tie.At-loop Inv-loop μ-loop
+began c = c .before .before .before
+
+-- at the place there is a kind
+is-kind : (c : tie.In-loop Inv-loop μ-loop) → let a = start (c .before) .args in getD (now (a .order)) (a .n - 1 - c .before .loop .t) 0 < a .n
+is-kind c = let s = start (c .before) in s .pre .0 .1 .arranged .kinds (s .args .n - 1 - c .before .loop .t) (omega arith)
+
 loop-holds : tie.Need-loop-holds Inv-loop μ-loop
 loop-holds c =
     let s = c .before .before .pre in
     (omega arith, settling-none _ _ _ _ _ _ _ _ _ (s .0 .0 .kinds) (s .0 .1 .arranged) _ (s .1 .1))
 
-sub-c : tie.Need-sub-c Inv-loop μ-loop
-sub-c c = omega arith
-
-sub-c-2 : tie.Need-sub-c-2 Inv-loop μ-loop
-sub-c-2 c = omega arith
-
-element-copy-out-c : tie.Need-element-copy-out-c Inv-loop μ-loop
-element-copy-out-c c = omega arith
-
-cast-c : tie.Need-cast-c Inv-loop μ-loop
-cast-c c = omega (arith, c .before .before .before .before .before .pre .0 .1 .arranged .kinds (c .before .before .before .before .before .args .n - 1 - c .before .before .loop .t) (omega arith))
-
-element-copy-out-if1 : tie.Need-element-copy-out-if1 Inv-loop μ-loop
-element-copy-out-if1 c = omega (arith, c .before .before .before .before .before .pre .0 .1 .arranged .kinds (c .before .before .before .before .before .args .n - 1 - c .before .before .loop .t) (omega arith))
-
 settle-kind-requires : tie.Need-settle-kind-requires Inv-loop μ-loop
 settle-kind-requires c κs =
-    let l = c .before .before .before .before .before in
-    let s = c .before .before .before .before .before .before .before .before in
-    let sized = s .pre .0 .0 in (
-      (record { kinds = sized .kinds; marks = sized .marks; rules-size = sized .rules-size; entries-size = l .loop .inv .1 .size ∙ sized .entries-size }, s .pre .0 .1),
-      (s .pre .1 .0, s .pre .0 .1 .arranged .kinds (s .args .n - 1 - l .loop .t) (omega arith)),
+    let test = c .before .before in
+    let s = start (began test) .pre in
+    let sized = s .0 .0 in (
+      (record { kinds = sized .kinds; marks = sized .marks; rules-size = sized .rules-size; entries-size = began test .loop .inv .1 .size ∙ sized .entries-size }, s .0 .1),
+      (s .1 .0, is-kind (test .before .before)),
     )
 
 add-count : tie.Need-add-count Inv-loop μ-loop
 add-count c =
-    let l = c .before .before .before .before .before .before .before .before in
-    let s = c .before .before .before .before .before .before .before .before .before .before .before .pre in
-    let next = settling-kind _ _ _ _ _ _ _ _ _ (s .0 .0 .kinds) (s .0 .1 .arranged) _ _ (omega arith) (l .loop .inv .1) (s .1 .0 .high) (c .before .before .settle-kind .ensures .1) in
+    let k = c .before .before in
+    let l = began (k .before .before .before) in
+    let s = start l .pre in
+    let next = settling-kind _ _ _ _ _ _ _ _ _ (s .0 .0 .kinds) (s .0 .1 .arranged) _ _ (omega arith) (l .loop .inv .1) (s .1 .0 .high) (k .settle-kind .ensures .1) in
     omega (arith, settling-few _ _ _ _ _ _ _ _ _ (s .0 .0 .kinds) (s .0 .1 .arranged) next, s .0 .0 .entries-size, mul-le-mul (s .0 .0 .kinds) (s .0 .0 .marks))
-
-add-t : tie.Need-add-t Inv-loop μ-loop
-add-t c = omega arith
-
-loop-less : tie.Need-loop-less Inv-loop μ-loop
-loop-less c = omega arith
 
 loop-again : tie.Need-loop-again Inv-loop μ-loop
 loop-again c =
-    let l = c .before .before .before .before in
-    let s = c .before .before .before .before .before .before .before .pre in (
+    let l = began (c .before) in
+    let s = start l .pre in (
       omega arith,
       ⊎-elim
           (λ w. rw (w .5, w .6) (settling-kind _ _ _ _ _ _ _ _ _ (s .0 .0 .kinds) (s .0 .1 .arranged) _ _ (omega arith) (l .loop .inv .1) (s .1 .0 .high) (w .2 .ensures .1)))
@@ -69,31 +62,15 @@ loop-again c =
           (c .if1 .came),
     )
 
-same-length : tie.Need-same-length Inv-loop μ-loop
-same-length c = c .before .loop .inv .1 .size
-
 returns : tie.Need-returns Inv-loop μ-loop
 returns c =
-    let s = c .before .before .before .before in
+    let s = start (c .before) in
     let end : c .before .loop .t ≡ s .args .n = omega arith in
     settled _ _ _ _ _ _ _ _ _ (s .pre .0 .0 .kinds) (s .pre .0 .1 .arranged) (rw end at (c .before .loop .inv .1))
 
 pub settle-spec : {M : Type 1} → statement M
 settle-spec =
     tie.close
-    (tie.spec
-    Inv-loop
-    μ-loop
-    loop-holds
-    sub-c
-    sub-c-2
-    element-copy-out-c
-    cast-c
-    element-copy-out-if1
-    settle-kind-requires
-    add-count
-    add-t
-    loop-less
-    loop-again
-    same-length
-    returns)
+    (tie.spec Inv-loop μ-loop loop-holds (λ c. omega arith) (λ c. omega arith) (λ c. omega arith) (λ c. omega (arith, is-kind (c .before)))
+    (λ c. omega (arith, is-kind (c .before))) settle-kind-requires add-count (λ c. omega arith) (λ c. omega arith) loop-again
+    (λ c. c .before .loop .inv .1 .size) returns)

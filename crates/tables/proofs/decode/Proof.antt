@@ -6,12 +6,6 @@ use Rattle.tables.proofs.EntryLaws.{lookup-none, lookup-rule, lookup-di
 use Rattle.tables.proofs.decode.Statement.{statement}
 use Rattle.tables.proofs.decode.Tie as tie
 
-sub-t4 : tie.Need-sub-t4
-sub-t4 c = search needs
-
-sub-t8 : tie.Need-sub-t8
-sub-t8 c = search needs
-
 returns : tie.Need-returns
 returns c = sym (lookup-dispute _ (omega arith))
 
@@ -22,4 +16,5 @@ returns-3 : tie.Need-returns-3
 returns-3 c = sym (lookup-none _ (omega arith))
 
 pub decode-spec : {M : Type 1} → statement M
-decode-spec = tie.close (tie.spec sub-t4 sub-t8 returns returns-2 returns-3)
+decode-spec =
+    tie.close (tie.spec (λ c. search needs) (λ c. search needs) returns returns-2 returns-3)

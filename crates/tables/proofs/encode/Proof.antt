@@ -6,23 +6,11 @@ use Rattle.tables.specs.Entry.{entryOf}
 use Rattle.tables.proofs.encode.Statement.{statement}
 use Rattle.tables.proofs.encode.Tie as tie
 
-enum-told : tie.Need-enum-told
-enum-told c = search needs
-
-enum-known-lookup : tie.Need-enum-known-lookup
-enum-known-lookup c = search needs
-
 add-result : tie.Need-add-result
 add-result c = omega (arith, ap entryOf (c .before .before .lookup .given .1), c .before .before .before .before .pre)
 
-enum-known-lookup-2 : tie.Need-enum-known-lookup-2
-enum-known-lookup-2 c = search needs
-
 add-result-2 : tie.Need-add-result-2
 add-result-2 c = omega (arith, ap entryOf (c .before .before .lookup2 .given .1), c .before .before .before .before .pre)
-
-returns : tie.Need-returns
-returns c = search needs
 
 returns-2 : tie.Need-returns-2
 returns-2 c = sym (ap entryOf (c .before .before .lookup .given .1))
@@ -32,13 +20,4 @@ returns-3 c = sym (ap entryOf (c .before .before .lookup2 .given .1))
 
 pub encode-spec : {M : Type 1} → statement M
 encode-spec =
-    tie.close
-    (tie.spec
-    enum-told
-    enum-known-lookup
-    add-result
-    enum-known-lookup-2
-    add-result-2
-    returns
-    returns-2
-    returns-3)
+    tie.close (tie.spec (λ c. search needs) (λ c. search needs) add-result (λ c. search needs) add-result-2 (λ c. search needs) returns-2 returns-3)

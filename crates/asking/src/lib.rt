@@ -1,0 +1,151 @@
+// The checks that the calls begin with: refusals 1, 2 and 3.
+use inheritance::CheckedKind;
+use inheritance::CheckedMark;
+use inheritance::Kind;
+use inheritance::Mark;
+use tables::Refusal;
+use tables::TALLIES;
+ghost use mathlib.Core.Path.{_≡_};
+ghost use Rattle.inheritance.specs.Checked.{kindBelow, markBelow};
+ghost use Rattle.tables.specs.Controller.{shaped-bytes};
+ghost use Rattle.tables.specs.Tables.{lent, sized, shaped};
+ghost use Rattle.asking.specs.Ask.{askedKind, asked, checked, checkedLink};
+
+// A kind and a mark of the book that a call is put to, or its refusal.
+pub enum Asked {
+    At(Kind, Mark),
+    Refused(Refusal),
+}
+
+// A kind of the book that a call is put to, or its refusal.
+enum KindAsked {
+    Kind(Kind),
+    Refused(Refusal),
+}
+
+// A child and a parent of the book that an edit is put to, or its refusal.
+pub enum LinkAsked {
+    Between(Kind, Kind),
+    Refused(Refusal),
+}
+
+// Whether n and m are in their ranges and the four tables have exactly their lengths, which are given. A number of 16 bits
+// takes short elements of its table, and one of 32 bits long. The && is for speed: with & in its place the find of the line
+// controllers takes a tenth longer.
+fn sized(
+    short: u16,
+    long: u16,
+    n: u16,
+    m: u16,
+    links: usize,
+    rules: usize,
+    entries: usize,
+    tally: usize,
+) -> bool
+    ensures { λ r. ⌜ r ≡ sized short long n m links rules entries tally ⌝ }
+{
+    let places = short as usize * (n as usize * m as usize);
+    (1 <= n)
+        & (n <= Kind::MOST)
+        & (1 <= m)
+        & (m <= Mark::MOST)
+        & (links == n as usize * n as usize)
+        & (rules == places)
+        && (entries == places) & (tally == long as usize * TALLIES)
+}
+
+// Whether tables of numbers have the lengths of a book of n kinds and m marks.
+pub fn shape(n: u16, m: u16, links: &[u8], rules: &[u16], entries: &[u16], tally: &[u32]) -> bool
+    ensures { λ r. ⌜ r ≡ shaped n m (lent (now (links .entry)) (now (rules .entry)) (now (entries .entry)) (now (tally .entry))) ⌝ }
+{
+    sized(
+        1,
+        1,
+        n,
+        m,
+        links.len(),
+        rules.len(),
+        entries.len(),
+        tally.len(),
+    )
+}
+
+// The same of tables of bytes.
+pub fn shape_bytes(n: u16, m: u16, links: &[u8], rules: &[u8], entries: &[u8], tally: &[u8]) -> bool
+    ensures { λ r. ⌜ r ≡ shaped-bytes n m (lent (now (links .entry)) (now (rules .entry)) (now (entries .entry)) (now (tally .entry))) ⌝ }
+{
+    sized(
+        2,
+        4,
+        n,
+        m,
+        links.len(),
+        rules.len(),
+        entries.len(),
+        tally.len(),
+    )
+}
+
+// Refusals 1 and 2, in this order: shaped says whether the tables have their lengths, and kind is any number.
+fn ask_kind(shaped: bool, n: u16, kind: Kind) -> KindAsked
+    ensures { λ r. ⌜ r ≡ askedKind shaped (kindBelow n (kind .0)) ⌝ }
+{
+    if !shaped {
+        return KindAsked::Refused(Refusal::Shape);
+    }
+    match Kind::new(kind.0, n) {
+        CheckedKind::Kind(k) => KindAsked::Kind(k),
+        CheckedKind::Outside => KindAsked::Refused(Refusal::Kind),
+    }
+}
+
+// Refusals 1, 2 and 3, in this order, of a call on a kind and a mark, where shaped says whether the tables have their lengths.
+pub fn ask(shaped: bool, n: u16, m: u16, kind: Kind, mark: Mark) -> Asked
+    ensures { λ r. ⌜ r ≡ asked (askedKind shaped (kindBelow n (kind .0))) (markBelow m (mark .0)) ⌝ }
+{
+    match ask_kind(shaped, n, kind) {
+        KindAsked::Refused(why) => Asked::Refused(why),
+        KindAsked::Kind(k) => match Mark::new(mark.0, m) {
+            CheckedMark::Mark(j) => Asked::At(k, j),
+            CheckedMark::Outside => Asked::Refused(Refusal::Mark),
+        },
+    }
+}
+
+// The same on tables of numbers.
+pub fn ask_place(
+    n: u16,
+    m: u16,
+    links: &[u8],
+    rules: &[u16],
+    entries: &[u16],
+    tally: &[u32],
+    kind: Kind,
+    mark: Mark,
+) -> Asked
+    ensures { λ r. ⌜ r ≡ checked n m (lent (now (links .entry)) (now (rules .entry)) (now (entries .entry)) (now (tally .entry))) (kind .0) (mark .0) ⌝ }
+{
+    ask(shape(n, m, links, rules, entries, tally), n, m, kind, mark)
+}
+
+// Refusals 1 and 2, in this order, of a call on a child and a parent.
+pub fn ask_link(
+    n: u16,
+    m: u16,
+    links: &[u8],
+    rules: &[u16],
+    entries: &[u16],
+    tally: &[u32],
+    child: Kind,
+    parent: Kind,
+) -> LinkAsked
+    ensures { λ r. ⌜ r ≡ checkedLink n m (lent (now (links .entry)) (now (rules .entry)) (now (entries .entry)) (now (tally .entry))) (child .0) (parent .0) ⌝ }
+{
+    match ask_kind(shape(n, m, links, rules, entries, tally), n, child) {
+        KindAsked::Refused(why) => LinkAsked::Refused(why),
+        KindAsked::Kind(c) => match Kind::new(parent.0, n) {
+            CheckedKind::Kind(p) => LinkAsked::Between(c, p),
+            CheckedKind::Outside => LinkAsked::Refused(Refusal::Kind),
+        },
+    }
+}

@@ -1,0 +1,39 @@
+// The four edits, and one function for any of them given as a value.
+use tables::Edit;
+use tables::Edited;
+ghost use mathlib.Core.Path.{_≡_};
+ghost use Rattle.tables.specs.Books.{editOutcome, editOf};
+ghost use Rattle.tables.specs.Calls.{leaves};
+ghost use Rattle.tables.specs.Reply.{edited};
+ghost use Rattle.tables.specs.Tables.{lent};
+pub use link_edits::add_link;
+pub use link_edits::take_link;
+pub use rule_edits::add_rule;
+pub use rule_edits::take_rule;
+
+// The edit is made on the tables.
+pub fn make(
+    edit: Edit,
+    n: u16,
+    m: u16,
+    links: &mut [u8],
+    rules: &mut [u16],
+    entries: &mut [u16],
+    tally: &mut [u32],
+) -> Edited
+    ensures { λ r. ⌜ leaves (edited r) (lent (now (links .exit)) (now (rules .exit)) (now (entries .exit)) (now (tally .exit)))
+        ≡ editOutcome n m (lent (now (links .entry)) (now (rules .entry)) (now (entries .entry)) (now (tally .entry))) (editOf edit) ⌝ }
+{
+    match edit {
+        Edit::AddRule(kind, mark, handling) => {
+            add_rule(n, m, links, rules, entries, tally, kind, mark, handling)
+        }
+        Edit::TakeRule(kind, mark) => take_rule(n, m, links, rules, entries, tally, kind, mark),
+        Edit::AddLink(child, parent) => {
+            add_link(n, m, links, rules, entries, tally, child, parent)
+        }
+        Edit::TakeLink(child, parent) => {
+            take_link(n, m, links, rules, entries, tally, child, parent)
+        }
+    }
+}

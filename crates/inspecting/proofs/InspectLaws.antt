@@ -1,0 +1,144 @@
+-- A search for the lowest number that fails a test, and what inspect answers by it.
+--     lowest-none, lowest-is, lowest-le, lowest-same     `lowest`: where all pass, where one is known, at most k, and of tests that agree
+--     Searching                                          every number below i passes: the invariant of a loop
+--     searching-none, searching-more                     where the loop begins, and what a turn does
+--     searching-found, searching-all                     the first number that fails is found; none is
+--     inspect-refused, inspect-links, inspect-entries    what inspect answers, where the tables do not have their lengths, where the links have a
+--                                                        fault, and where they have none
+-- Assumes nothing.
+use mathlib.Core.Path.{_≡_, refl, sym, _∙_, ap}
+use mathlib.Core.Logic.{by-cases}
+use mathlib.Core.Bool.{Bool, true, false, _&&_, not, true≢false, false≢true}
+use mathlib.Core.List.{List}
+use Prim.Native.Nat.{ℕ, zero, suc, _+_, _*_, _<_, _≤_}
+use native.Mathlib.Decide.{decLt}
+use native.Mathlib.Omega.{arith}
+use lib.ListN.{length}
+use Rattle.inheritance.specs.Above.{above}
+use Rattle.inheritance.proofs.AboveLaws.{above-same}
+use Rattle.relation.specs.Bit.{bit}
+use Rattle.relation.specs.Closed.{Closed}
+use Rattle.loading.specs.Loaded.{Loaded}
+use Rattle.soundness.proofs.Soundness.{rows-links}
+use Rattle.tables.specs.Reply.{refused, given}
+use Rattle.tables.specs.Tables.{Tables, shaped, upOf, entriesOf, all-below, byte-right, bytes-right, kind-free, entry-right, well-linked, links-right}
+use Rattle.tables.specs.Calls.{check, lowest, firstFault, faultOf, inspect}
+use Rattle.tables.proofs.CallLaws.{Lowest, lowest-fails}
+use Rattle.tables.proofs.ShapeLaws.{sized-facts}
+use Rattle.tables.proofs.TableLaws.{below-suc, below-true, below-same}
+use Rattle.inspecting.specs.Faults.{off-own-row, linkFault, entryFault}
+
+-- ---- the lowest number that fails
+
+pub lowest-none : (f : ℕ → Bool) (k : ℕ) → all-below f k ≡ true → lowest f k ≡ k
+unfolding all-below lowest
+lowest-none f zero e = refl
+lowest-none f (suc k) e = go (all-below f k) (f k) e
+  where
+    go : (a b : Bool) → (a && b) ≡ true → _≡_ {A = ℕ} (elim a [ true ↦ elim b [ true ↦ suc k | false ↦ k ] | false ↦ lowest f k ]) (suc k)
+    go true true e = refl
+    go true false e = absurd (false≢true e)
+    go false b e = absurd (false≢true e)
+
+fails-below : (f : ℕ → Bool) (k i : ℕ) → i < k → f i ≡ false → all-below f k ≡ false
+fails-below f k i h e = go (all-below f k) refl
+  where
+    go : (b : Bool) → all-below f k ≡ b → b ≡ false
+    go true all = absurd (true≢false (sym (below-true f k all i h) ∙ e))
+    go false all = refl
+
+module _ (f : ℕ → Bool) (k : ℕ) where
+  one-lowest : {i j : ℕ} → Lowest f k i → Lowest f k j → i ≡ j
+  one-lowest {i} {j} a b = by-cases (decLt i j) (λ h. absurd (false≢true (sym (a .fails) ∙ b .first i h)))
+      (λ h. by-cases (decLt j i) (λ g. absurd (false≢true (sym (b .fails) ∙ a .first j g))) (λ g. omega arith))
+
+  lowest-is : {i : ℕ} → Lowest f k i → lowest f k ≡ i
+  lowest-is {i} l = one-lowest (lowest-fails f k (fails-below f k i (l .within) (l .fails))) l
+
+  pub lowest-le : {i : ℕ} → i ≡ lowest f k → i ≤ k
+  lowest-le {i} is = go (all-below f k) refl
+    where
+      go : (b : Bool) → all-below f k ≡ b → i ≤ k
+      go true e = omega (arith, lowest-none f k e)
+      go false e = omega (arith, lowest-fails f k e .within)
+
+lowest-same : (f g : ℕ → Bool) (k : ℕ) → ((i : ℕ) → i < k → f i ≡ g i) → lowest f k ≡ lowest g k
+lowest-same f g k same = go (all-below f k) refl
+  where
+    go : (b : Bool) → all-below f k ≡ b → lowest f k ≡ lowest g k
+    go true e = lowest-none f k e ∙ sym (lowest-none g k (sym (below-same f g k same) ∙ e))
+    go false e =
+        let l = lowest-fails f k e in
+        sym (lowest-is g k (record {
+          within = l .within;
+          fails = sym (same _ (l .within)) ∙ l .fails;
+          first = λ j h. sym (same j (omega (arith, l .within))) ∙ l .first j h;
+        }))
+
+-- ---- the search
+
+pub record Searching (f : ℕ → Bool) (k i : ℕ) : Type 0 where
+  pub within : i ≤ k
+  pub passed : all-below f i ≡ true
+
+pub searching-none : (f : ℕ → Bool) (k : ℕ) → Searching f k 0
+unfolding all-below
+searching-none f k = record { within = omega arith; passed = refl }
+
+module _ {f : ℕ → Bool} {k i : ℕ} (s : Searching f k i) where
+  pub searching-more : i < k → f i ≡ true → Searching f k (i + 1)
+  searching-more h e = record { within = omega arith; passed = rw (below-suc, s .passed) e }
+
+  pub searching-found : i < k → f i ≡ false → (all-below f k ≡ false) × (lowest f k ≡ i)
+  searching-found h e = (fails-below f k i h e, lowest-is f k (record { within = h; fails = e; first = below-true f i (s .passed) }))
+
+  pub searching-all : k ≤ i → all-below f k ≡ true
+  searching-all h = let end : i ≡ k = omega (arith, s .within) in rw end at (s .passed)
+
+-- ---- inspect
+
+-- a kind is in its own closed row just where it is above itself
+free-tests : (n : ℕ) (links rows closed : List ℕ) → n ≤ 128 → Loaded n links rows → Closed n n rows closed → (c : ℕ) → c < n → off-own-row closed c ≡ kind-free n (upOf n links) c
+unfolding above
+free-tests n links rows closed kinds loaded closes c h =
+    ap not (closes .bits c c h (omega arith) ∙ above-same n (bit rows) (upOf n links) (rows-links n links rows kinds loaded) c c h h)
+
+module _ (n m : ℕ) (t : Tables) where
+  pub inspect-refused : shaped n m t ≡ false → refused 1 ≡ inspect n m t .reply
+  unfolding inspect check
+  inspect-refused is = rw is refl
+
+  -- the rows have the links if every byte is 0 or 1: else the byte is the fault, whatever the rows have
+  pub inspect-links : {rows closed : List ℕ} → shaped n m t ≡ true → (all-below (byte-right (t .links)) (length (t .links)) ≡ true → Loaded n (t .links) rows)
+      → Closed n n rows closed → links-right n (t .links) ≡ false
+      → given (linkFault n (t .links) closed) ≡ inspect n m t .reply
+  unfolding inspect check faultOf bytes-right well-linked
+  inspect-links {rows} {closed} is loaded closes bad =
+      rw (is, size) (ap given (go (all-below (byte-right (t .links)) (n * n)) refl (all-below (kind-free n (upOf n (t .links))) n) (all-below (entry-right n m (upOf n (t .links)) (t .rules) (t .entries)) (n * m)) _ _ bad))
+    where
+      size : length (t .links) ≡ n * n
+      size = sized-facts 1 1 n m _ _ _ _ is .links-length
+
+      kinds : all-below (byte-right (t .links)) (n * n) ≡ true → lowest (off-own-row closed) n ≡ lowest (kind-free n (upOf n (t .links))) n
+      kinds right = lowest-same _ _ n
+          (free-tests n (t .links) rows closed (sized-facts 1 1 n m _ _ _ _ is .kinds .1) (loaded (ap (all-below (byte-right (t .links))) size ∙ right)) closes)
+
+      go : (a : Bool) → all-below (byte-right (t .links)) (n * n) ≡ a → (b c : Bool) (byte entry : ℕ) → (a && b) ≡ false
+          → firstFault a false true byte (lowest (off-own-row closed) n) 0 ≡ firstFault a b c byte (lowest (kind-free n (upOf n (t .links))) n) entry
+      go false q b c byte entry e = refl
+      go true q false c byte entry e = ap (λ (k : ℕ). firstFault true false true byte k 0) (kinds q)
+      go true q true c byte entry e = absurd (true≢false e)
+
+  pub inspect-entries : {lookups : List ℕ} → shaped n m t ≡ true → links-right n (t .links) ≡ true → lookups ≡ entriesOf n m (upOf n (t .links)) (t .rules)
+      → given (entryFault (t .entries) lookups) ≡ inspect n m t .reply
+  unfolding inspect check faultOf bytes-right well-linked
+  inspect-entries is good looked =
+      let s = sized-facts 1 1 n m _ _ _ _ is in
+      let size : length (t .entries) ≡ n * m = omega (arith, s .entries-length) in
+      rw (is, looked, size) (ap given (go (all-below (byte-right (t .links)) (n * n)) (all-below (kind-free n (upOf n (t .links))) n) (all-below (entry-right n m (upOf n (t .links)) (t .rules) (t .entries)) (n * m)) _ _ _ good))
+    where
+      go : (a b c : Bool) (byte kind entry : ℕ) → (a && b) ≡ true → firstFault true true c 0 0 entry ≡ firstFault a b c byte kind entry
+      go true true true byte kind entry e = refl
+      go true true false byte kind entry e = refl
+      go true false c byte kind entry e = absurd (false≢true e)
+      go false b c byte kind entry e = absurd (false≢true e)

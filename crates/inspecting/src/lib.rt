@@ -1,0 +1,84 @@
+// Inspect: the first fault of the tables.
+use inheritance::Kind;
+use lookups::look_up;
+use relation::close;
+use relation::test;
+use tables::Inspected;
+use tables::Refusal;
+ghost use mathlib.Core.Path.{_≡_};
+ghost use Prim.Native.Nat.{_≤_};
+ghost use lib.ListN.{length};
+ghost use Rattle.tables.specs.Calls.{lowest, inspect};
+ghost use Rattle.tables.specs.Reply.{given, inspected};
+ghost use Rattle.tables.specs.Tables.{lent};
+ghost use Rattle.inspecting.specs.Faults.{off-own-row, linkFault, entryFault};
+
+// The lowest kind below n that is in its own row; n where none is.
+fn first_in_own_row(rows: &[u64; 256], n: usize) -> usize
+    requires { ⌜ n ≤ 128 ⌝ }
+    ensures { λ r. ⌜ r ≡ lowest (off-own-row (now (rows .entry))) n ⌝ }
+{
+    for c in 0..n {
+        if test(rows, c, c) {
+            return c;
+        }
+    }
+    n
+}
+
+// The first fault of links that have one: the lowest place of a byte above 1, or else the lowest kind above itself. Closed
+// has who is above whom.
+fn link_fault(n: usize, links: &[u8], closed: &[u64; 256]) -> Inspected
+    requires { ⌜ (n ≤ 128) × (length (now links) ≤ 16384) ⌝ }
+    ensures { λ r. ⌜ inspected r ≡ given (linkFault n (now (links .entry)) (now (closed .entry))) ⌝ }
+{
+    for i in 0..links.len() {
+        if links[i] > 1 {
+            let place = i as u16;
+            return Inspected::LinkByte(place);
+        }
+    }
+    let kind = first_in_own_row(closed, n) as u16;
+    Inspected::AboveItself(Kind(kind))
+}
+
+// The fault of entries, where the links have none: the lowest place whose entry is not its lookup.
+fn entry_fault(entries: &[u16], lookups: &[u16]) -> Inspected
+    requires { ⌜ (length (now lookups) ≡ length (now entries)) × (length (now entries) ≤ 8192) ⌝ }
+    ensures { λ r. ⌜ inspected r ≡ given (entryFault (now (entries .entry)) (now (lookups .entry))) ⌝ }
+{
+    for i in 0..entries.len() {
+        if entries[i] != lookups[i] {
+            let place = i as u16;
+            return Inspected::WrongEntry(place);
+        }
+    }
+    Inspected::Sound
+}
+
+// Sound, or the first fault. Where a kind is above itself there are no lookups to compare with, so the links are judged
+// first.
+pub fn inspect(
+    n: u16,
+    m: u16,
+    links: &[u8],
+    rules: &[u16],
+    entries: &[u16],
+    tally: &[u32],
+) -> Inspected
+    ensures { λ r. ⌜ inspected r ≡ inspect n m (lent (now (links .entry)) (now (rules .entry)) (now (entries .entry)) (now (tally .entry))) .reply ⌝ }
+{
+    let shaped = asking::shape(n, m, links, rules, entries, tally);
+    if !shaped {
+        return Inspected::Refused(Refusal::Shape);
+    }
+    let mut rows = [0u64; 256];
+    let mut scratch = [0u16; 8192];
+    let lookups = &mut scratch[..entries.len()];
+    let linked = look_up(n as usize, m as usize, links, rules, &mut rows, lookups);
+    if !linked {
+        close(&mut rows, n as usize);
+        return link_fault(n as usize, links, &rows);
+    }
+    entry_fault(entries, lookups)
+}

@@ -1,0 +1,166 @@
+// The edits of a link. Nothing is written before the tables are known to be sound.
+use asking::LinkAsked;
+use asking::ask_link;
+use inheritance::Kind;
+use relation::next;
+use relation::test;
+use relinking::apply_link;
+use soundness::examine;
+use tables::Edited;
+use tables::Refusal;
+ghost use mathlib.Core.Path.{_≡_};
+ghost use mathlib.Core.Bool.{true, false};
+ghost use Prim.Native.Nat.{_<_};
+ghost use Rattle.relation.specs.Bit.{bit};
+ghost use Rattle.tables.specs.Calls.{leaves, addLink, takeLink};
+ghost use Rattle.tables.specs.Reply.{edited};
+ghost use Rattle.tables.specs.Tables.{lent, shaped};
+ghost use Rattle.link_edits.specs.LinkEdit.{judged, linkEdit, linkCall};
+
+// What the links say to an edit.
+pub enum Verdict {
+    Allowed,
+    Refused(Refusal),
+}
+
+// Refusals 7 and 9 of an add, in this order, and 8 of a take. The rows have the links, and reach the places of the kinds at or
+// above each; `at` is the place of the child.
+fn judge(
+    rows: &[u64; 256],
+    reach: &[u64; 256],
+    child: Kind,
+    parent: Kind,
+    at: usize,
+    adding: bool,
+) -> Verdict
+    requires { ⌜ (child .0 < 128) × (parent .0 < 128) × (at < 128) ⌝ }
+    ensures { λ r. ⌜ r ≡ judged adding (bit (now (rows .entry)) (child .0) (parent .0)) (bit (now (reach .entry)) (parent .0) at) ⌝ }
+{
+    let c = child.0 as usize;
+    let p = parent.0 as usize;
+    let linked = test(rows, c, p);
+    let cycle = test(reach, p, at);
+    if adding {
+        if linked {
+            Verdict::Refused(Refusal::Linked)
+        } else if cycle {
+            Verdict::Refused(Refusal::Cycle)
+        } else {
+            Verdict::Allowed
+        }
+    } else if linked {
+        Verdict::Allowed
+    } else {
+        Verdict::Refused(Refusal::NotLinked)
+    }
+}
+
+// The link between two kinds of the book is added or taken.
+fn edit_link(
+    n: u16,
+    m: u16,
+    links: &mut [u8],
+    rules: &[u16],
+    entries: &mut [u16],
+    tally: &mut [u32],
+    child: Kind,
+    parent: Kind,
+    adding: bool,
+) -> Edited
+    requires { ⌜ (shaped n m (lent (now links) (now rules) (now entries) (now tally)) ≡ true) × (child .0 < n) × (parent .0 < n) ⌝ }
+    ensures { λ r. ⌜ leaves (edited r) (lent (now (links .exit)) (now (rules .entry)) (now (entries .exit)) (now (tally .exit)))
+        ≡ linkEdit n m (lent (now (links .entry)) (now (rules .entry)) (now (entries .entry)) (now (tally .entry))) (child .0) (parent .0) adding ⌝ }
+{
+    let mut rows = [0u64; 256];
+    let mut order = [0u8; 128];
+    let mut reach = [0u64; 256];
+    let mut ruled = [0u64; 256];
+    let sound = examine(
+        n as usize,
+        m as usize,
+        links,
+        rules,
+        entries,
+        &mut rows,
+        &mut order,
+        &mut reach,
+        &mut ruled,
+    );
+    if !sound {
+        return Edited::Refused(Refusal::Unsound);
+    }
+    let at = next(&reach, child.0 as usize, 0);
+    match judge(&rows, &reach, child, parent, at, adding) {
+        Verdict::Refused(why) => Edited::Refused(why),
+        Verdict::Allowed => Edited::Done(apply_link(
+            n,
+            m,
+            links,
+            rules,
+            entries,
+            tally,
+            &mut rows,
+            &mut order,
+            &mut reach,
+            &mut ruled,
+            child,
+            parent,
+            adding,
+        )),
+    }
+}
+
+// The link between any two kinds is added or taken.
+fn change_link(
+    n: u16,
+    m: u16,
+    links: &mut [u8],
+    rules: &[u16],
+    entries: &mut [u16],
+    tally: &mut [u32],
+    child: Kind,
+    parent: Kind,
+    adding: bool,
+) -> Edited
+    ensures { λ r. ⌜ leaves (edited r) (lent (now (links .exit)) (now (rules .entry)) (now (entries .exit)) (now (tally .exit)))
+        ≡ linkCall n m (lent (now (links .entry)) (now (rules .entry)) (now (entries .entry)) (now (tally .entry))) (child .0) (parent .0) adding ⌝ }
+{
+    match ask_link(n, m, links, rules, entries, tally, child, parent) {
+        LinkAsked::Refused(why) => Edited::Refused(why),
+        LinkAsked::Between(c, p) => edit_link(n, m, links, rules, entries, tally, c, p, adding),
+    }
+}
+
+// A kind gets another as its direct parent.
+pub fn add_link(
+    n: u16,
+    m: u16,
+    links: &mut [u8],
+    rules: &[u16],
+    entries: &mut [u16],
+    tally: &mut [u32],
+    child: Kind,
+    parent: Kind,
+) -> Edited
+    ensures { λ r. ⌜ leaves (edited r) (lent (now (links .exit)) (now (rules .entry)) (now (entries .exit)) (now (tally .exit)))
+        ≡ addLink n m (lent (now (links .entry)) (now (rules .entry)) (now (entries .entry)) (now (tally .entry))) (child .0) (parent .0) ⌝ }
+{
+    change_link(n, m, links, rules, entries, tally, child, parent, true)
+}
+
+// A kind loses a direct parent.
+pub fn take_link(
+    n: u16,
+    m: u16,
+    links: &mut [u8],
+    rules: &[u16],
+    entries: &mut [u16],
+    tally: &mut [u32],
+    child: Kind,
+    parent: Kind,
+) -> Edited
+    ensures { λ r. ⌜ leaves (edited r) (lent (now (links .exit)) (now (rules .entry)) (now (entries .exit)) (now (tally .exit)))
+        ≡ takeLink n m (lent (now (links .entry)) (now (rules .entry)) (now (entries .entry)) (now (tally .entry))) (child .0) (parent .0) ⌝ }
+{
+    change_link(n, m, links, rules, entries, tally, child, parent, false)
+}

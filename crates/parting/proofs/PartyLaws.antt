@@ -1,0 +1,62 @@
+-- The parties of a dispute.
+--     dispute-two       on sound tables two kinds are left at a kind whose entry is a dispute
+--     pair-parties      where two are left, the two lowest are parties
+-- Assumes nothing.
+use mathlib.Core.Path.{_≡_, refl, sym, _∙_, ap, subst}
+use mathlib.Core.Bool.{Bool, true}
+use mathlib.Core.List.{List}
+use Prim.Native.Nat.{ℕ, _+_, _*_, _-_, _<_, _≤_}
+use native.Mathlib.Omega.{arith}
+use lib.ListN.{length, getD}
+use Rattle.inheritance.specs.Lookup.{left, Left, Two, passing}
+use Rattle.inheritance.proofs.DecideLaws.{passing-same, passing-cases}
+use Rattle.inheritance.proofs.LeftLaws.{seen-rule, left-test, left-agree}
+use Rattle.inheritance.proofs.LookupLaws.{lookup-dispute-iff}
+use Rattle.relation.specs.Bit.{bit}
+use Rattle.tables.specs.Calls.{TwoParties}
+use Rattle.tables.specs.Entry.{lookupOf}
+use Rattle.tables.specs.Reply.{paired}
+use Rattle.tables.specs.Tables.{Tables, upOf, ownOf, sound}
+use Rattle.tables.proofs.EntryLaws.{lookup-dispute}
+use Rattle.tables.proofs.SoundLaws.{sound-means, entries-looked, lookup-read}
+use Rattle.parting.specs.Parting.{lowestTwo}
+
+module _ (n m : ℕ) (t : Tables) {c j : ℕ} (c<n : c < n) (j<m : j < m) where
+  abbrev up : ℕ → ℕ → Bool
+  up = upOf n (t .links)
+
+  abbrev own : ℕ → Bool
+  own = ownOf m (t .rules) j
+
+  pub dispute-two : n ≤ 128 → length (t .entries) ≡ n * m → sound n m t ≡ true → 257 ≤ getD (t .entries) (c * m + j) 0 → Two (Left n (upOf n (t .links)) (ownOf m (t .rules) j) c)
+  dispute-two kinds size is high =
+      let s = sound-means n m t size is in
+      let e = getD (t .entries) (c * m + j) 0 in
+      let looked = entries-looked n m (upOf n (t .links)) (t .rules) (t .entries) (s .entries) c j c<n j<m in
+      let read = sym (lookup-read n m up (t .rules) (t .entries) (omega arith) c j c<n) ∙ ap lookupOf (sym looked) ∙ lookup-dispute e high in
+      lookup-dispute-iff n up own c c<n .0 (e - 257, read)
+
+  -- the rows have the links
+  pub pair-parties : (rows : List ℕ) → ((c p : ℕ) → c < n → p < n → bit rows c p ≡ upOf n (t .links) c p) → Two (Left n (upOf n (t .links)) (ownOf m (t .rules) j) c)
+      → TwoParties n m t c j (paired (lowestTwo (passing (left n (bit rows) (ownOf m (t .rules) j) c) n)))
+  pair-parties rows same (o₁, o₂, h₁, h₂, apart) =
+      subst (λ os. TwoParties n m t c j (paired (lowestTwo os))) (sym by-links)
+      (passing-cases (λ os. TwoParties n m t c j (paired (lowestTwo os))) (left n up own c) n
+      (λ none. absurd (none o₁ (below h₁) (test h₁)))
+      (λ o l is only. absurd (apart (only o₁ (below h₁) (test h₁) ∙ sym (only o₂ (below h₂) (test h₂)))))
+      (λ o o′ os l l′ is is′ q. record {
+        pair = record { one = o; other = o′ };
+        gives = refl;
+        one-left = left-test n up own c o c<n l .0 is;
+        other-left = left-test n up own c o′ c<n l′ .0 is′;
+        different = λ same. omega arith;
+      }))
+    where
+      by-links : passing (left n (bit rows) own c) n ≡ passing (left n up own c) n
+      by-links = passing-same _ _ n (λ o l. left-agree n (bit rows) up same own own (λ _ _. refl) c o c<n l)
+
+      below : {o : ℕ} → Left n up own c o → o < n
+      below h = seen-rule n up own c<n (h .is-seen) .0
+
+      test : {o : ℕ} → Left n up own c o → left n up own c o ≡ true
+      test {o} h = left-test n up own c o c<n (below h) .1 h

@@ -1,0 +1,99 @@
+// The change of an edit of a link that is allowed: the link is stored, all is prepared anew, and what the link can touch is settled.
+use arranging::arrange;
+use inheritance::Kind;
+use relation::mark;
+use relation::unmark;
+use resettling::count_edit;
+use resettling::resettle_link;
+use ruling::rule_rows;
+use tables::link_place;
+ghost use mathlib.Core.Path.{_≡_};
+ghost use Prim.Native.Nat.{_<_};
+ghost use Rattle.inheritance.specs.Above.{Acyclic};
+ghost use Rattle.resettling.specs.Known.{Known};
+ghost use Rattle.tables.specs.Calls.{leaves, accepted};
+ghost use Rattle.tables.specs.Reply.{given};
+ghost use Rattle.tables.specs.Tables.{lent, upOf};
+ghost use Rattle.relinking.specs.Relinked.{linked, Preparable, Relinked};
+
+// The link is put into the rows or taken out of them, and all is prepared anew.
+fn relink(
+    n: usize,
+    m: usize,
+    rules: &[u16],
+    rows: &mut [u64; 256],
+    order: &mut [u8; 128],
+    reach: &mut [u64; 256],
+    ruled: &mut [u64; 256],
+    child: Kind,
+    parent: Kind,
+    adding: bool,
+)
+    requires { ⌜ (Preparable n m (now rules) (now rows) (now order)) × (child .0 < n) × (parent .0 < n) ⌝ }
+    ensures { λ _. ⌜ Relinked n m (child .0) (parent .0) adding (now (rules .entry)) (now (rows .entry)) (now (rows .exit)) (now (order .exit)) (now (reach .exit)) (now (ruled .exit)) ⌝ }
+{
+    let c = child.0 as usize;
+    let p = parent.0 as usize;
+    if adding {
+        mark(rows, c, p);
+    } else {
+        unmark(rows, c, p);
+    }
+    *reach = [0u64; 256];
+    *ruled = [0u64; 256];
+    if arrange(rows, n, order, reach) {
+        rule_rows(rules, n, m, order, ruled);
+    }
+}
+
+// The link is stored, what it can touch is settled, and the edit is counted. How many entries differ from before.
+pub fn apply_link(
+    n: u16,
+    m: u16,
+    links: &mut [u8],
+    rules: &[u16],
+    entries: &mut [u16],
+    tally: &mut [u32],
+    rows: &mut [u64; 256],
+    order: &mut [u8; 128],
+    reach: &mut [u64; 256],
+    ruled: &mut [u64; 256],
+    child: Kind,
+    parent: Kind,
+    adding: bool,
+) -> u16
+    requires { ⌜ (Known n m (lent (now links) (now rules) (now entries) (now tally)) (now rows) (now order) (now reach) (now ruled)) × (child .0 < n) × (parent .0 < n) ⌝ }
+    requires { ⌜ Acyclic n (upOf n (linked n (now links) (child .0) (parent .0) adding)) ⌝ }
+    ensures { λ r. ⌜ leaves (given r) (lent (now (links .exit)) (now (rules .entry)) (now (entries .exit)) (now (tally .exit)))
+        ≡ accepted n m (lent (now (links .entry)) (now (rules .entry)) (now (entries .entry)) (now (tally .entry)))
+        (linked n (now (links .entry)) (child .0) (parent .0) adding) (now (rules .entry)) ⌝ }
+{
+    let kinds = n as usize;
+    let marks = m as usize;
+    links[link_place(child, parent, n)] = adding as u8;
+    relink(
+        kinds,
+        marks,
+        rules,
+        rows,
+        order,
+        reach,
+        ruled,
+        child,
+        parent,
+        adding,
+    );
+    let count = resettle_link(
+        rows,
+        order,
+        reach,
+        ruled,
+        kinds,
+        marks,
+        child,
+        rules,
+        entries,
+    );
+    count_edit(tally, 0);
+    count
+}

@@ -1,0 +1,69 @@
+-- What an edit knows once the tables are found sound.
+--     fits-sized, fits-tally    what `examine` asks of tables that have their lengths, and the length of the tally
+--     known           what is known, from what `examine` answers
+--     has, acyclic, looked    what sound tables have; no kind is above itself, and the entries are the lookups by the rows
+--     known-place     the place of a kind of the book
+--     given-accepted  entries and count of an accepted edit, as the whole that it leaves
+-- Assumes nothing.
+use mathlib.Core.Path.{_≡_, refl, sym, _∙_}
+use mathlib.Core.Bool.{Bool, true}
+use mathlib.Core.List.{List}
+use Prim.Native.Nat.{ℕ, _*_, _<_, _≤_}
+use native.Mathlib.Omega.{arith}
+use lib.ListN.{length, getD}
+use Rattle.inheritance.specs.Above.{Acyclic}
+use Rattle.relation.specs.Bit.{bit}
+use Rattle.relation.specs.First.{First}
+use Rattle.loading.specs.Loaded.{Loaded}
+use Rattle.soundness.specs.Examined.{Examined}
+use Rattle.settling.proofs.Editing.{Accepted}
+use Rattle.deciding.proofs.Preparing.{kind-place}
+use Rattle.soundness.proofs.Soundness.{rows-links, links-rows}
+use Rattle.tables.specs.Calls.{leaves, accepted}
+use Rattle.tables.specs.Reply.{given}
+use Rattle.tables.specs.Tables.{Tables, lent, tallies, shaped, Sized, upOf, entriesOf, sound, tallied}
+use Rattle.tables.proofs.EditLaws.{Passed, passed}
+use Rattle.tables.proofs.ShapeLaws.{sized-facts, shape-sized}
+use Rattle.tables.proofs.SoundLaws.{acyclic-agree, entriesOf-agree}
+use Rattle.resettling.specs.Known.{Known}
+
+module _ (n m : ℕ) (t : Tables) where
+  pub fits-sized : shaped n m t ≡ true → Sized n m (t .rules) (t .entries) × (length (t .links) ≡ n * n)
+  fits-sized fits = let s = sized-facts 1 1 n m _ _ _ _ fits in (shape-sized n m t s, s .links-length)
+
+  pub fits-tally : shaped n m t ≡ true → length (t .tally) ≡ tallies
+  fits-tally fits = let s = sized-facts 1 1 n m _ _ _ _ fits in omega (arith, s .tally-length)
+
+  pub known : (rows order reach ruled : List ℕ) {r : Bool} → shaped n m t ≡ true → Examined n m (t .links) (t .rules) (t .entries) rows order reach ruled r → r ≡ true
+      → Known n m t rows order reach ruled
+  known rows order reach ruled fits examined found = record {
+    fits = fits;
+    is-sound = sym (examined .answer (t .tally)) ∙ found;
+    loaded = examined .loaded found;
+    prepared = examined .prepared found;
+  }
+
+  -- the rows have the links
+  pub given-accepted : (links rules rows : List ℕ) → n ≤ 128 → Loaded n links rows → Acyclic n (bit rows)
+      → {new : List ℕ} {count : ℕ} → Accepted n m (bit rows) rules (t .entries) new count
+      → leaves (given count) (lent links rules new (tallied 0 (t .tally))) ≡ accepted n m t links rules
+  unfolding accepted
+  given-accepted links rules rows kinds loaded acyclic a =
+      let same = entriesOf-agree n (bit rows) (upOf n links) (rows-links n links rows kinds loaded) m (omega arith) acyclic rules in
+      rw (a .0, a .1, same) refl
+
+module _ {n m : ℕ} {t : Tables} {rows order reach ruled : List ℕ} (k : Known n m t rows order reach ruled) where
+  pub has : Passed n m t
+  has = passed n m t (k .fits) (k .is-sound)
+
+  pub acyclic : Acyclic n (bit rows)
+  acyclic = acyclic-agree n (upOf n (t .links)) (bit rows) (links-rows n (t .links) rows (has .sizes .kinds) (k .loaded)) (has .before .acyclic)
+
+  -- the entries are the lookups by the rows
+  pub looked : t .entries ≡ entriesOf n m (bit rows) (t .rules)
+  looked =
+      has .before .entries
+      ∙ entriesOf-agree n (upOf n (t .links)) (bit rows) (links-rows n (t .links) rows (has .sizes .kinds) (k .loaded)) m (omega (arith, has .sizes .kinds)) (has .before .acyclic) (t .rules)
+
+  pub known-place : (c : ℕ) → c < n → {i : ℕ} → First (bit reach c) 0 128 i → (i < n) × (getD order i 0 ≡ c)
+  known-place c h first = kind-place n rows order reach (k .prepared .arranged) (has .sizes .kinds) c h first

@@ -1,0 +1,122 @@
+-- An edit of a rule, step by step.
+--     rule-refused, rule-handling, rule-passed refusals 1 to 3, refusal 4 of an add, and what comes after them
+--     added-rule, taken-rule                   the two calls are the two cases of `ruleCall`
+--     rule-unsound, rule-absent                refusals 5 and 6
+--     rule-within, rule-sized                  the place of the rule, and the tables once it is stored
+--     rule-prepared                            what is prepared, once the kind is put among the rule kinds or taken out
+--     rule-applied                             what is settled and counted then
+--     rule-untouched                           what is known of the entries of sound tables once the rule is stored
+--     rule-done                                what an accepted edit leaves and answers
+-- Assumes nothing.
+use mathlib.Core.Path.{_≡_, refl, sym, _∙_, ap}
+use mathlib.Core.Bool.{Bool, true, false, _&&_, not}
+use mathlib.Core.List.{List}
+use Prim.Native.Nat.{ℕ, _+_, _*_, _<_}
+use lib.Arith.{digits-lt}
+use lib.Dec.{eqb, ltb}
+use lib.ListN.{length, getD, set, length-set}
+use Rattle.inheritance.specs.declared.Kind.{Kind}
+use Rattle.inheritance.specs.declared.Mark.{Mark}
+use Rattle.relation.specs.Bit.{bit}
+use Rattle.relation.specs.First.{First}
+use Rattle.deciding.specs.Deciding.{Prepared}
+use Rattle.settling.specs.Settled.{Settled}
+use Rattle.settling.proofs.Editing.{rule-awaiting, rule-settled}
+use Rattle.deciding.proofs.Preparing.{kind-place, prepared-set}
+use Rattle.asking.specs.declared.Asked.{Asked}
+use Rattle.tables.specs.declared.Refusal.{Refusal}
+use Rattle.tables.specs.Calls.{Outcome, leaves, check, addRule, takeRule}
+use Rattle.tables.specs.Reply.{refused, given, refusalNumber}
+use Rattle.tables.specs.Tables.{Tables, lent, shaped, Sized, sound, tallied}
+use Rattle.asking.proofs.AskLaws.{asked-at, checks-pass, checks-refuse}
+use Rattle.asking.specs.Ask.{checked}
+use Rattle.resettling.specs.Edits.{Untouched, changed, Reset}
+use Rattle.resettling.specs.Known.{Known}
+use Rattle.resettling.proofs.KnownLaws.{has, acyclic, looked, given-accepted}
+use Rattle.rule_edits.specs.RuleEdit.{stored, RuleUntouched, Applied, ruleEdit, ruleCall}
+
+-- ---- refusals 1 to 4
+
+module _ (n m : ℕ) (t : Tables) (c i : ℕ) where
+  module _ (handling : ℕ) (adding : Bool) where
+    pub rule-refused : {why : Refusal} → checked n m t c i ≡ Asked.Refused why → leaves (refused (refusalNumber why)) t ≡ ruleCall n m t c i handling adding
+    unfolding ruleCall
+    rule-refused e = sym (checks-refuse (shaped n m t) n m c i t _ e)
+
+    module _ {k : Kind} {j : Mark} (e : checked n m t c i ≡ Asked.At k j) where
+      pub rule-handling : (adding && eqb handling 0) ≡ true → leaves (refused 4) t ≡ ruleCall n m t c i handling adding
+      unfolding ruleCall check
+      rule-handling none = sym (checks-pass (shaped n m t) n m c i t _ e ∙ rw none refl)
+
+      pub rule-passed : (adding && eqb handling 0) ≡ false → ruleEdit n m t (k .0) (j .0) handling ≡ ruleCall n m t c i handling adding
+      unfolding ruleCall check
+      rule-passed some =
+          let p = asked-at (shaped n m t) n m c i e in
+          rw (p .the-kind, p .the-mark) (sym (checks-pass (shaped n m t) n m c i t _ e ∙ rw some refl))
+
+  pub added-rule : (handling : ℕ) → ruleCall n m t c i handling true ≡ addRule n m t c i handling
+  unfolding ruleCall ruleEdit addRule check
+  added-rule handling = ap (λ (o : Outcome ℕ). check 1 (shaped n m t) t (check 2 (ltb c n) t (check 3 (ltb i m) t o))) (go (eqb handling 0) _ _)
+    where
+      go : (none absent : Bool) (next : Outcome ℕ) → check 4 (not none) t (check 5 (sound n m t) t (check 6 (not (none && absent)) t next))
+          ≡ check 4 (not none) t (check 5 (sound n m t) t next)
+      go true absent next = refl
+      go false absent next = refl
+
+  pub taken-rule : ruleCall n m t c i 0 false ≡ takeRule n m t c i
+  unfolding ruleCall ruleEdit takeRule check
+  taken-rule = refl
+
+-- ---- the rule stored, at place i
+
+module _ (n m : ℕ) {rules entries : List ℕ} (s : Sized n m rules entries) (kind mark handling : ℕ) (kind-in : kind < n) (mark-in : mark < m) (i : ℕ) (at : i ≡ kind * m + mark) where
+  pub rule-within : i < length rules
+  rule-within = rw (at, s .rules-size) (digits-lt kind-in mark-in)
+
+  pub rule-sized : Sized n m (set rules i handling) entries
+  rule-sized = record {
+    kinds = s .kinds;
+    marks = s .marks;
+    rules-size = length-set rules i handling ∙ s .rules-size;
+    entries-size = s .entries-size;
+  }
+
+  pub rule-prepared : {rows order reach ruled new : List ℕ} {place : ℕ} → Prepared n m rows rules order reach ruled → First (bit reach kind) 0 128 place
+      → Reset mark place (not (eqb handling 0)) ruled new → Prepared n m rows (set rules i handling) order reach new
+  rule-prepared {rows} {order} {reach} {ruled} {new} {place} p first r =
+      let (within, is) = kind-place n rows order reach (p .arranged) (s .kinds) kind kind-in first in
+      rw at
+      (prepared-set m rules kind mark handling mark-in n (s .rules-size) rows order reach ruled new place within is p
+      (λ before here. changed (not (eqb handling 0)) here before) (λ b. refl) (λ b. refl) (r .long) (r .bits))
+
+  pub rule-applied : {up : ℕ → ℕ → Bool} {new before tally : List ℕ} {count : ℕ} → Settled n m mark (mark + 1) up (set rules i handling) entries new count
+      → tally ≡ tallied 0 before → Applied n m kind mark up (stored m rules kind mark handling) (set rules i handling) entries new before tally count
+  rule-applied settled counted = record { rule = rw at refl; settled = rw at at settled; counted = counted }
+
+-- ---- from refusal 5 on
+
+module _ (n m : ℕ) (t : Tables) (kind mark handling : ℕ) where
+  pub rule-unsound : sound n m t ≡ false → leaves (refused 5) t ≡ ruleEdit n m t kind mark handling
+  unfolding ruleEdit check
+  rule-unsound e = rw e refl
+
+  module _ {rows order reach ruled : List ℕ} (k : Known n m t rows order reach ruled) (mark-in : mark < m) where
+    pub rule-untouched : RuleUntouched n m kind mark (bit rows) (stored m (t .rules) kind mark handling) (t .entries)
+    unfolding Untouched
+    rule-untouched =
+        rule-awaiting n m (bit rows) (t .rules) (t .entries) (has k .sizes .entries-size) (acyclic k) (looked k) kind mark handling mark-in
+
+    module _ (i : ℕ) (at : i ≡ kind * m + mark) where
+      pub rule-absent : (eqb handling 0 && eqb (getD (t .rules) i 0) 0) ≡ true → leaves (refused 6) t ≡ ruleEdit n m t kind mark handling
+      unfolding ruleEdit check
+      rule-absent e = rw (k .is-sound, ← at, e) refl
+
+      pub rule-done : {rules entries tally : List ℕ} {count : ℕ} → (eqb handling 0 && eqb (getD (t .rules) i 0) 0) ≡ false
+          → Applied n m kind mark (bit rows) (stored m (t .rules) kind mark handling) rules (t .entries) entries (t .tally) tally count
+          → leaves (given count) (lent (t .links) rules entries tally) ≡ ruleEdit n m t kind mark handling
+      unfolding ruleEdit check
+      rule-done e a =
+          let there : (eqb handling 0 && eqb (getD (t .rules) (kind * m + mark) 0) 0) ≡ false = rw at at e in
+          rw (k .is-sound, there, a .rule, a .counted)
+          (given-accepted n m t (t .links) (stored m (t .rules) kind mark handling) rows (has k .sizes .kinds) (k .loaded) (acyclic k)
+          (rule-settled n m (bit rows) (t .rules) (t .entries) (has k .sizes .entries-size) (acyclic k) (looked k) kind mark handling mark-in (a .settled)))

@@ -1,0 +1,210 @@
+// Soundness as code: the links are tested and the kinds arranged, and every entry is compared with one step of inheritance
+// from the entries of its kind's parents.
+use arranging::arrange;
+use deciding::decide_row;
+use loading::load;
+use merging::merge;
+use merging::merge_parents;
+use merging::own;
+use relation::next;
+use ruling::rule_rows;
+ghost use mathlib.Core.Path.{_≡_};
+ghost use Prim.Native.Nat.{_+_, _*_, _<_, _≤_};
+ghost use lib.Dec.{eqb};
+ghost use lib.ListN.{getD, length};
+ghost use Rattle.relation.specs.Bit.{bit, Blank};
+ghost use Rattle.tables.specs.Step.{kind-right, right};
+ghost use Rattle.tables.specs.Tables.{all-below, byte-right, Sized};
+ghost use Rattle.deciding.specs.Deciding.{Prepared};
+ghost use Rattle.merging.specs.Merged.{merged, given};
+ghost use Rattle.soundness.specs.Examined.{Checked, LinksExamined, Examined};
+
+// Whether the entries of kind c are those of the row.
+fn row_right(m: usize, entries: &[u16], c: usize, out: &[u16; 64]) -> bool
+    requires { ⌜ (m ≤ 64) × (c * m + m ≤ length (now entries)) ⌝ }
+    ensures { λ r. ⌜ r ≡ all-below (λ j. eqb (getD (now (entries .entry)) (c * m + j) 0) (getD (now (out .entry)) j 0)) m ⌝ }
+{
+    let mut same = true;
+    for j in 0..m {
+        same = same & (entries[c * m + j] == out[j]);
+    }
+    same
+}
+
+// The entries that kind c would have by its own rules and two rows that its parents give, x from i on and y from k on.
+// Whether they are its entries, and none says that the parents differ.
+fn check(
+    c: usize,
+    m: usize,
+    rules: &[u16],
+    x: &[u16],
+    i: usize,
+    y: &[u16],
+    k: usize,
+    entries: &[u16],
+    out: &mut [u16; 64],
+) -> bool
+    requires { ⌜ (c < 128) × (m ≤ 64) × (c * m + m ≤ length (now rules)) × (c * m + m ≤ length (now entries)) ⌝ }
+    requires { ⌜ (i + m ≤ length (now x)) × (k + m ≤ length (now y)) × (length (now out) ≡ 64) ⌝ }
+    ensures { λ r. ⌜ Checked m c (now (rules .entry)) (now (entries .entry)) (λ j. merged c (getD (now (x .entry)) (i + j) 0) (getD (now (y .entry)) (k + j) 0)) (now (out .exit)) r ⌝ }
+{
+    let kind = c as u16;
+    let mut all = true;
+    for j in 0..m {
+        let e = own(kind, rules[c * m + j], merge(kind, x[i + j], y[k + j]));
+        all = all & ((e == entries[c * m + j]) & (e != 257 + kind));
+        out[j] = e;
+    }
+    all
+}
+
+// The same for what all the parents of kind c give it. Of one parent or two the rows are taken where they stand, which most
+// kinds have; the row of one parent, or of all merged, is given twice, since a row merged with itself is that row.
+fn check_row(
+    rows: &[u64; 256],
+    n: usize,
+    m: usize,
+    rules: &[u16],
+    entries: &[u16],
+    c: usize,
+    out: &mut [u16; 64],
+) -> bool
+    requires { ⌜ (Sized n m (now rules) (now entries)) × (c < n) × (length (now out) ≡ 64) ⌝ }
+    ensures { λ r. ⌜ Checked m c (now (rules .entry)) (now (entries .entry)) (given m (bit (now (rows .entry))) (now (entries .entry)) c n) (now (out .exit)) r ⌝ }
+{
+    let first = next(rows, c, 0);
+    if first < n {
+        let second = next(rows, c, first + 1);
+        if second >= n {
+            return check(
+                c,
+                m,
+                rules,
+                entries,
+                first * m,
+                entries,
+                first * m,
+                entries,
+                out,
+            );
+        }
+        if next(rows, c, second + 1) >= n {
+            return check(
+                c,
+                m,
+                rules,
+                entries,
+                first * m,
+                entries,
+                second * m,
+                entries,
+                out,
+            );
+        }
+    }
+    let mut all = [0u16; 64];
+    merge_parents(rows, n, m, 0, m, entries, c, &mut all);
+    check(c, m, rules, &all, 0, &all, 0, entries, out)
+}
+
+// Whether the entries of kind c are what its own rules, its parents' entries and the kinds left give.
+fn kind_right(
+    rows: &[u64; 256],
+    order: &[u8; 128],
+    reach: &[u64; 256],
+    ruled: &[u64; 256],
+    n: usize,
+    m: usize,
+    rules: &[u16],
+    entries: &[u16],
+    c: usize,
+    out: &mut [u16; 64],
+) -> bool
+    requires { ⌜ (Sized n m (now rules) (now entries)) × (Prepared n m (now rows) (now rules) (now order) (now reach) (now ruled)) ⌝ }
+    requires { ⌜ (c < n) × (length (now out) ≡ 64) ⌝ }
+    ensures { λ r. ⌜ (r ≡ kind-right n m (bit (now (rows .entry))) (now (rules .entry)) (now (entries .entry)) c) × (length (now (out .exit)) ≡ 64) ⌝ }
+{
+    if check_row(rows, n, m, rules, entries, c, out) {
+        return true;
+    }
+    decide_row(order, reach, ruled, 0, m, c, out);
+    row_right(m, entries, c, out)
+}
+
+// Whether every entry is what its kind's own rules, its parents' entries and the kinds left give.
+fn entries_right(
+    rows: &[u64; 256],
+    order: &[u8; 128],
+    reach: &[u64; 256],
+    ruled: &[u64; 256],
+    n: usize,
+    m: usize,
+    rules: &[u16],
+    entries: &[u16],
+) -> bool
+    requires { ⌜ (Sized n m (now rules) (now entries)) × (Prepared n m (now rows) (now rules) (now order) (now reach) (now ruled)) ⌝ }
+    ensures { λ r. ⌜ r ≡ right n m (bit (now (rows .entry))) (now (rules .entry)) (now (entries .entry)) ⌝ }
+{
+    let mut out = [0u16; 64];
+    let mut all = true;
+    for c in 0..n {
+        all = all & kind_right(rows, order, reach, ruled, n, m, rules, entries, c, &mut out);
+    }
+    all
+}
+
+// Whether every link byte is 0 or 1.
+fn bytes_right(links: &[u8]) -> bool
+    ensures { λ r. ⌜ r ≡ all-below (byte-right (now (links .entry))) (length (now (links .entry))) ⌝ }
+{
+    let mut good = true;
+    for i in 0..links.len() {
+        good = good & (links[i] <= 1);
+    }
+    good
+}
+
+// Whether every link byte is 0 or 1 and no kind is above itself. Where the bytes are so, the links are left in the rows. If
+// both hold, the kinds are left in an order in which each stands before those above it, and in reach the places of the kinds
+// at or above each. Rows and reach were blank.
+pub fn examine_links(
+    n: usize,
+    links: &[u8],
+    rows: &mut [u64; 256],
+    order: &mut [u8; 128],
+    reach: &mut [u64; 256],
+) -> bool
+    requires { ⌜ (n ≤ 128) × (length (now links) ≡ n * n) × (Blank (now rows)) × (length (now order) ≡ 128) × (Blank (now reach)) ⌝ }
+    ensures { λ r. ⌜ LinksExamined n (now (links .entry)) (now (rows .exit)) (now (order .exit)) (now (reach .exit)) r ⌝ }
+{
+    if !bytes_right(links) {
+        return false;
+    }
+    load(links, n, rows);
+    arrange(rows, n, order, reach)
+}
+
+// Whether the tables are sound: every link byte is 0 or 1, no kind is above itself, every entry equals its lookup. If so,
+// the links are left in the rows, with the order, the kinds at or above each and the rule kinds of each mark. Rows, reach
+// and ruled were blank.
+pub fn examine(
+    n: usize,
+    m: usize,
+    links: &[u8],
+    rules: &[u16],
+    entries: &[u16],
+    rows: &mut [u64; 256],
+    order: &mut [u8; 128],
+    reach: &mut [u64; 256],
+    ruled: &mut [u64; 256],
+) -> bool
+    requires { ⌜ (Sized n m (now rules) (now entries)) × (length (now links) ≡ n * n) ⌝ }
+    requires { ⌜ (Blank (now rows)) × (length (now order) ≡ 128) × (Blank (now reach)) × (Blank (now ruled)) ⌝ }
+    ensures { λ r. ⌜ Examined n m (now (links .entry)) (now (rules .entry)) (now (entries .entry)) (now (rows .exit)) (now (order .exit)) (now (reach .exit)) (now (ruled .exit)) r ⌝ }
+{
+    if !examine_links(n, links, rows, order, reach) {
+        return false;
+    }
+    rule_rows(rules, n, m, order, ruled);
+    entries_right(rows, order, reach, ruled, n, m, rules, entries)
+}
