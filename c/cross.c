@@ -1,8 +1,10 @@
-/* Holds every call of a house to document 01 and request U6 as this file reads them: the kinds seen, those left of them and a plain recursive
-   lookup, and the edits by working every entry out anew.
-   All books of up to 3 kinds and 2 marks whose links have no cycle, and many random ones of 4 to 6 kinds and 2 marks: on each, every entry, every edit
-   with every argument, parties everywhere, and inspect and refresh on the book as it is and damaged, and as it was stored before that request. A few
-   named books have their answers and entries written out as well. */
+/* Holds every call of a house to docs/SCOPE.md as this file reads it: the kinds seen, those left of them and a plain
+   recursive lookup, and the edits by working every entry out anew.
+   All books of up to 3 kinds and 2 marks whose links have no cycle, and many random ones of 4 to 6 kinds and 2 marks:
+   every call on each, with every kind and mark, the first that there is not, and the largest number; with each table
+   one too short and one too long; and again on the book damaged, and as it was stored when the lookup was another. A
+   few named books have their answers and entries written out as well, and larger tables show the edges of the sizes.
+   It fails where a call differs, and where an answer of a call never came up. */
 
 #include <stdio.h>
 #include <stdlib.h>
@@ -10,21 +12,87 @@
 
 #include "house.h"
 
-enum { KINDS = 6, MARKS = 2, FIVE = HOUSE_REFUSED + 5 };
+#define MANY(list) (sizeof(list) / sizeof *(list))
 
+enum { KINDS = 6, MARKS = 2 };
+
+/* Each table has room for one element more at least. There is no padding: books are compared as memory. */
 struct book {
     uint16_t n, m;
-    uint8_t links[KINDS * KINDS];
-    uint16_t rules[KINDS * MARKS], entries[KINDS * MARKS];
-    uint32_t tally[1];
+    uint8_t links[KINDS * KINDS + 4];
+    uint16_t rules[KINDS * MARKS + 2], entries[KINDS * MARKS + 2];
+    uint32_t tally[2];
 };
 
-#define LENT(b)                                                                                                                                  \
-    (b)->n, (b)->m, (b)->links, (size_t)(b)->n *(b)->n, (b)->rules, (size_t)(b)->n *(b)->m, (b)->entries, (size_t)(b)->n *(b)->m, (b)->tally, 1
+/* ---- the calls */
 
-/* ---- document 01 and request U6, read plainly */
+enum call { OPEN, ADD_RULE, TAKE_RULE, ADD_LINK, TAKE_LINK, REFRESH, INSPECT, PARTIES, CALLS };
 
-static int linked(const struct book *b, unsigned child, unsigned parent) { return b->links[child * b->n + parent] == 1; }
+/* Of each call its arguments (k a kind, m a mark, h a handling) and the refusals that it gives. They leave a 0 in each
+   row, which stands for any other answer. */
+static const struct {
+    const char *name;
+    char arguments[4];
+    uint8_t refusals[6];
+} calls[CALLS] = {
+    [OPEN] = {"open", "", {1}},
+    [ADD_RULE] = {"add rule", "kmh", {1, 2, 3, 4, 5}},
+    [TAKE_RULE] = {"take rule", "km", {1, 2, 3, 5, 6}},
+    [ADD_LINK] = {"add link", "kk", {1, 2, 5, 7, 9}},
+    [TAKE_LINK] = {"take link", "kk", {1, 2, 5, 8}},
+    [REFRESH] = {"refresh", "", {1, 5}},
+    [INSPECT] = {"inspect", "", {1}},
+    [PARTIES] = {"parties", "km", {1, 2, 3, 5, 11}},
+};
+
+/* The numbers that follow the tables. */
+struct arguments {
+    uint16_t x, y, z;
+};
+
+/* A size, and tables with their lengths. */
+struct lent {
+    uint16_t n, m;
+    uint8_t *links;
+    uint16_t *rules, *entries;
+    uint32_t *tally;
+    size_t lengths[4];
+};
+
+#define LENT(t)                                                                                              \
+    (t)->n, (t)->m, (t)->links, (t)->lengths[0], (t)->rules, (t)->lengths[1], (t)->entries, (t)->lengths[2], \
+        (t)->tally, (t)->lengths[3]
+
+/* What the library answers. */
+static uint32_t make(enum call call, const struct lent *t, struct arguments a) {
+    switch (call) {
+    case OPEN: return house_open(LENT(t));
+    case ADD_RULE: return house_add_rule(LENT(t), a.x, a.y, a.z);
+    case TAKE_RULE: return house_take_rule(LENT(t), a.x, a.y);
+    case ADD_LINK: return house_add_link(LENT(t), a.x, a.y);
+    case TAKE_LINK: return house_take_link(LENT(t), a.x, a.y);
+    case REFRESH: return house_refresh(LENT(t));
+    case INSPECT: return house_inspect(LENT(t));
+    default: return house_parties(LENT(t), a.x, a.y);
+    }
+}
+
+/* A book with the lengths that it should have. */
+static struct lent lend(struct book *b) {
+    size_t n = b->n, m = b->m;
+    return (struct lent){b->n, b->m, b->links, b->rules, b->entries, b->tally, {n * n, n * m, n * m, 1}};
+}
+
+static uint32_t made(enum call call, struct book *b, uint16_t x, uint16_t y, uint16_t z) {
+    struct lent t = lend(b);
+    return make(call, &t, (struct arguments){x, y, z});
+}
+
+/* ---- docs/SCOPE.md, read plainly */
+
+static int linked(const struct book *b, unsigned child, unsigned parent) {
+    return b->links[child * b->n + parent] == 1;
+}
 
 /* Whether p is above c by a chain of at most `links` links. */
 static int above_within(const struct book *b, unsigned c, unsigned p, unsigned links) {
@@ -69,7 +137,7 @@ static unsigned lookup(const struct book *b, unsigned c, unsigned mark) {
     return shared;
 }
 
-/* The lookup of document 01 by itself, as it was before that request. */
+/* The lookup as it once was: a rule hid those above it only along its own path. */
 static unsigned old_lookup(const struct book *b, unsigned c, unsigned mark) {
     unsigned shared = 0;
     if (b->rules[c * b->m + mark] != 0) return c + 1;
@@ -102,51 +170,78 @@ static uint32_t inspected(const struct book *b) {
     return HOUSE_SOUND;
 }
 
+static uint32_t emptied(struct lent t) {
+    memset(t.links, 0, sizeof *t.links * t.lengths[0]);
+    memset(t.rules, 0, sizeof *t.rules * t.lengths[1]);
+    memset(t.entries, 0, sizeof *t.entries * t.lengths[2]);
+    memset(t.tally, 0, sizeof *t.tally * t.lengths[3]);
+    return 0;
+}
+
 static uint32_t accepted(struct book *b) {
     if (b->tally[0] < UINT32_MAX) b->tally[0]++;
     return work_out(b);
 }
 
-static uint32_t add_rule(struct book *b, unsigned kind, unsigned mark, unsigned handling) {
-    if (kind >= b->n) return HOUSE_REFUSED + 2;
-    if (mark >= b->m) return HOUSE_REFUSED + 3;
-    if (handling == 0) return HOUSE_REFUSED + 4;
-    if (inspected(b) != HOUSE_SOUND) return FIVE;
-    b->rules[kind * b->m + mark] = (uint16_t)handling;
+static uint32_t change_rule(struct book *b, enum call call, struct arguments a) {
+    uint16_t *rule = &b->rules[a.x * b->m + a.y];
+    if (call == TAKE_RULE && *rule == 0) return HOUSE_REFUSED_NO_RULE;
+    *rule = call == ADD_RULE ? a.z : 0;
     return accepted(b);
 }
 
-static uint32_t take_rule(struct book *b, unsigned kind, unsigned mark) {
-    if (kind >= b->n) return HOUSE_REFUSED + 2;
-    if (mark >= b->m) return HOUSE_REFUSED + 3;
-    if (inspected(b) != HOUSE_SOUND) return FIVE;
-    if (b->rules[kind * b->m + mark] == 0) return HOUSE_REFUSED + 6;
-    b->rules[kind * b->m + mark] = 0;
+static uint32_t change_link(struct book *b, enum call call, struct arguments a) {
+    int adding = call == ADD_LINK, there = linked(b, a.x, a.y);
+    if (adding && there) return HOUSE_REFUSED_LINKED;
+    if (adding && (a.x == a.y || above(b, a.y, a.x))) return HOUSE_REFUSED_CYCLE;
+    if (!adding && !there) return HOUSE_REFUSED_NOT_LINKED;
+    b->links[a.x * b->n + a.y] = (uint8_t)adding;
     return accepted(b);
 }
 
-static uint32_t change_link(struct book *b, unsigned child, unsigned parent, int adding) {
-    if (child >= b->n || parent >= b->n) return HOUSE_REFUSED + 2;
-    if (inspected(b) != HOUSE_SOUND) return FIVE;
-    if (adding && linked(b, child, parent)) return HOUSE_REFUSED + 7;
-    if (adding && (parent == child || above(b, parent, child))) return HOUSE_REFUSED + 9;
-    if (!adding && !linked(b, child, parent)) return HOUSE_REFUSED + 8;
-    b->links[child * b->n + parent] = (uint8_t)adding;
-    return accepted(b);
+/* Some two different kinds left will do: what the library gave, if it is that. */
+static uint32_t parties(const struct book *b, struct arguments a, uint32_t given) {
+    unsigned one = given / 256, other = given % 256;
+    if (b->entries[a.x * b->m + a.y] < 257) return HOUSE_REFUSED_NO_DISPUTE;
+    int right = one != other && one < b->n && other < b->n && left(b, a.x, one, a.y) && left(b, a.x, other, a.y);
+    return right ? given : UINT32_MAX;
 }
 
-static uint32_t refresh(struct book *b) {
-    uint32_t fault = inspected(b);
-    if (fault != HOUSE_SOUND && fault < HOUSE_WRONG_ENTRY) return FIVE;
-    return work_out(b);
+/* The refusals of an argument by itself. */
+static uint32_t wrong_argument(const struct book *b, enum call call, struct arguments a) {
+    const char *what = calls[call].arguments;
+    if (what[0] == 'k' && a.x >= b->n) return HOUSE_REFUSED_KIND;
+    if (what[1] == 'k' && a.y >= b->n) return HOUSE_REFUSED_KIND;
+    if (what[1] == 'm' && a.y >= b->m) return HOUSE_REFUSED_MARK;
+    return what[2] == 'h' && a.z == 0 ? HOUSE_REFUSED_HANDLING : 0;
+}
+
+/* What a call should answer on a book of the right lengths where inspect should say `fault`; the book becomes what it
+   should leave. */
+static uint32_t expect(enum call call, struct book *b, struct arguments a, uint32_t fault, uint32_t given) {
+    uint32_t refusal = wrong_argument(b, call, a);
+    if (refusal != 0) return refusal;
+    if (call == OPEN) return emptied(lend(b));
+    if (call == INSPECT) return fault;
+    if (fault != HOUSE_SOUND && (call != REFRESH || fault < HOUSE_WRONG_ENTRY)) return HOUSE_REFUSED_UNSOUND;
+    if (call == REFRESH) return work_out(b);
+    if (call == PARTIES) return parties(b, a, given);
+    return call == ADD_RULE || call == TAKE_RULE ? change_rule(b, call, a) : change_link(b, call, a);
 }
 
 /* ---- compared */
 
-static unsigned long books, old_books, calls_made, refusals[16], edits_done;
+static unsigned long books, old_books, calls_made;
+
+/* How often each call gave each refusal, and under 0 any other answer. */
+static unsigned long answers[CALLS][12];
+
+static void fail_at(const char *what, unsigned n, unsigned m) {
+    fprintf(stderr, "%s differs on a book of %u kinds and %u marks\n", what, n, m);
+    exit(EXIT_FAILURE);
+}
 
 static void fail(const char *what, const struct book *b) {
-    fprintf(stderr, "%s differs on a book of %u kinds and %u marks\n", what, b->n, b->m);
     for (unsigned c = 0; c < b->n; c++) {
         for (unsigned p = 0; p < b->n; p++) fprintf(stderr, " %u", b->links[c * b->n + p]);
         fprintf(stderr, "  rules");
@@ -155,68 +250,76 @@ static void fail(const char *what, const struct book *b) {
         for (unsigned j = 0; j < b->m; j++) fprintf(stderr, " %u", b->entries[c * b->m + j]);
         fprintf(stderr, "\n");
     }
-    exit(EXIT_FAILURE);
+    fail_at(what, b->n, b->m);
+}
+
+/* Makes a call and counts its answer. */
+static uint32_t counted(enum call call, const struct lent *t, struct arguments a) {
+    uint32_t answer = make(call, t, a);
+    calls_made++;
+    if (!house_is_refusal(answer)) answers[call][0]++;
+    else if (house_refusal(answer) < MANY(answers[call])) answers[call][house_refusal(answer)]++;
+    return answer;
 }
 
 /* The answer and all four tables are the same. */
-static void same(const char *what, const struct book *before, const struct book *ours, const struct book *theirs, uint32_t mine, uint32_t yours) {
-    calls_made++;
-    if (yours >= HOUSE_REFUSED && yours < HOUSE_REFUSED + 16) refusals[yours - HOUSE_REFUSED]++;
-    else edits_done++;
-    if (mine != yours || memcmp(ours, theirs, sizeof *ours) != 0) fail(what, before);
+static void try_call(enum call call, const struct book *b, struct arguments a, uint32_t fault) {
+    struct book ours = *b, theirs = *b;
+    struct lent t = lend(&theirs);
+    uint32_t given = counted(call, &t, a);
+    if (expect(call, &ours, a, fault, given) != given || memcmp(&ours, &theirs, sizeof ours) != 0)
+        fail(calls[call].name, b);
 }
 
-static void try_edits(const struct book *b) {
-    static const uint16_t handlings[] = {0, 20, 65535};
-    for (uint16_t x = 0; x <= b->n; x++) {
-        for (uint16_t mark = 0; mark <= b->m; mark++) {
-            for (size_t h = 0; h < sizeof handlings / sizeof *handlings; h++) {
-                struct book ours = *b, theirs = *b;
-                uint32_t mine = add_rule(&ours, x, mark, handlings[h]);
-                same("add rule", b, &ours, &theirs, mine, house_add_rule(LENT(&theirs), x, mark, handlings[h]));
-            }
-            struct book ours = *b, theirs = *b;
-            uint32_t mine = take_rule(&ours, x, mark);
-            same("take rule", b, &ours, &theirs, mine, house_take_rule(LENT(&theirs), x, mark));
-        }
-        for (uint16_t y = 0; y <= b->n; y++) {
-            struct book ours = *b, theirs = *b, mine = *b, yours = *b;
-            uint32_t added = change_link(&ours, x, y, 1), taken = change_link(&mine, x, y, 0);
-            same("add link", b, &ours, &theirs, added, house_add_link(LENT(&theirs), x, y));
-            same("take link", b, &mine, &yours, taken, house_take_link(LENT(&yours), x, y));
-        }
+/* How many numbers are tried for an argument, and which: the kinds or marks of the book, the first that it has not, and
+   the largest number. */
+static unsigned many(char what, const struct book *b) {
+    return what == 'k' ? b->n + 2u : what == 'm' ? b->m + 2u : what == 'h' ? 3 : 1;
+}
+static uint16_t number(char what, const struct book *b, unsigned i) {
+    if (i + 1 == many(what, b)) return 65535;
+    return (uint16_t)(what == 'h' ? 20 * i : i);
+}
+
+static void try_calls(const struct book *b) {
+    uint32_t fault = inspected(b);
+    for (enum call call = 0; call < CALLS; call++) {
+        const char *what = calls[call].arguments;
+        for (unsigned i = 0; i < many(what[0], b); i++)
+            for (unsigned j = 0; j < many(what[1], b); j++)
+                for (unsigned k = 0; k < many(what[2], b); k++) {
+                    struct arguments a = {number(what[0], b, i), number(what[1], b, j), number(what[2], b, k)};
+                    try_call(call, b, a, fault);
+                }
     }
 }
 
-static void try_parties(const struct book *b) {
-    for (uint16_t kind = 0; kind < b->n; kind++)
-        for (uint16_t mark = 0; mark < b->m; mark++) {
-            struct book lent = *b;
-            uint32_t answer = house_parties(LENT(&lent), kind, mark);
-            calls_made++;
-            if (memcmp(&lent, b, sizeof lent) != 0) fail("parties", b);
-            if (b->entries[kind * b->m + mark] < 257) {
-                refusals[11]++;
-                if (answer != HOUSE_REFUSED + 11) fail("parties", b);
-            } else {
-                unsigned one = answer / 256, other = answer % 256;
-                edits_done++;
-                if (one == other || one >= b->n || other >= b->n || !left(b, kind, one, mark) || !left(b, kind, other, mark)) fail("parties", b);
-            }
+/* Every call with a length that is one off, whatever its arguments. */
+static void try_lengths(const struct book *b) {
+    static const struct arguments arguments[] = {{0, 0, 20}, {65535, 65535, 0}};
+    struct book lent = *b;
+    for (enum call call = 0; call < CALLS; call++)
+        for (unsigned i = 0; i < 4 * 2 * 2; i++) {
+            struct lent t = lend(&lent);
+            t.lengths[i / 4] += i % 2 == 0 ? 1 : (size_t)-1;
+            if (counted(call, &t, arguments[i / 2 % 2]) != HOUSE_REFUSED_BOOK || memcmp(&lent, b, sizeof lent) != 0)
+                fail(calls[call].name, b);
         }
 }
 
-static void try_whole(const struct book *b) {
-    struct book ours = *b, theirs = *b, lent = *b;
-    uint32_t fault = house_inspect(LENT(&lent));
-    calls_made++;
-    if (fault != inspected(b) || memcmp(&lent, b, sizeof lent) != 0) fail("inspect", b);
-    uint32_t mine = refresh(&ours);
-    same("refresh", b, &ours, &theirs, mine, house_refresh(LENT(&theirs)));
+/* How often a call that may refuse with 5 got past that. */
+static unsigned long past_five(void) {
+    unsigned long sum = 0;
+    for (enum call call = ADD_RULE; call <= PARTIES; call++)
+        if (calls[call].arguments[0] != 0) {
+            sum += answers[call][0];
+            for (unsigned r = 6; r < MANY(answers[call]); r++) sum += answers[call][r];
+        }
+    return sum;
 }
 
-/* The book as it was stored when entries were worked out by the old lookup. If it differs: inspect names the lowest place, no edit gets past refusal 5,
-   and refresh brings the book over. */
+/* The book as it was stored when entries were worked out by the old lookup. If it differs: inspect names the lowest
+   place, no edit gets past refusal 5, and refresh brings the book over. */
 static void try_old(const struct book *b) {
     struct book old = *b;
     uint32_t count = 0, lowest = 0;
@@ -228,35 +331,31 @@ static void try_old(const struct book *b) {
     }
     if (count == 0) return;
     old_books++;
-    try_whole(&old);
-    if (house_inspect(LENT(&old)) != HOUSE_WRONG_ENTRY + lowest) fail("inspect of an old book", &old);
-    if (house_parties(LENT(&old), 0, 0) != FIVE) fail("parties of an old book", &old);
-    unsigned long past_five = edits_done + refusals[6] + refusals[7] + refusals[8] + refusals[9];
-    try_edits(&old);
-    if (edits_done + refusals[6] + refusals[7] + refusals[8] + refusals[9] != past_five) fail("edit of an old book", &old);
-    if (house_refresh(LENT(&old)) != count || memcmp(&old, b, sizeof old) != 0) fail("refresh of an old book", b);
-    if (house_inspect(LENT(&old)) != HOUSE_SOUND) fail("inspect of a book brought over", b);
-    if (house_add_rule(LENT(&old), 0, 0, 20) >= HOUSE_REFUSED) fail("edit of a book brought over", b);
+    if (made(INSPECT, &old, 0, 0, 0) != HOUSE_WRONG_ENTRY + lowest) fail("inspect of an old book", &old);
+    unsigned long before = past_five();
+    try_calls(&old);
+    if (past_five() != before) fail("edit of an old book", &old);
+    if (made(REFRESH, &old, 0, 0, 0) != count || memcmp(&old, b, sizeof old) != 0) fail("refresh of an old book", b);
+    if (made(INSPECT, &old, 0, 0, 0) != HOUSE_SOUND) fail("inspect of a book brought over", b);
+    if (house_is_refusal(made(ADD_RULE, &old, 0, 0, 20))) fail("edit of a book brought over", b);
 }
 
 static void try_book(const struct book *b) {
     struct book damaged = *b;
     books++;
-    try_whole(b);
-    try_edits(b);
-    try_parties(b);
+    try_calls(b);
+    try_lengths(b);
     try_old(b);
     /* one entry wrong, then one link byte */
     damaged.entries[books % ((unsigned)b->n * b->m)] ^= (uint16_t)(1 + books % 3);
-    try_whole(&damaged);
-    try_edits(&damaged);
+    try_calls(&damaged);
     damaged = *b;
     damaged.links[books % ((unsigned)b->n * b->n)] ^= (uint8_t)(1 + books % 3);
-    try_whole(&damaged);
-    try_edits(&damaged);
+    try_calls(&damaged);
 }
 
-/* The book whose links and own rules are the bits of two numbers. Two kinds in three say 20: the same handling is no agreement. */
+/* The book whose links and own rules are the bits of two numbers. Two kinds in three say 20: the same handling is no
+   agreement. */
 static int make_book(struct book *b, uint16_t n, uint16_t m, unsigned long links, unsigned long rules) {
     memset(b, 0, sizeof *b);
     b->n = n;
@@ -276,10 +375,12 @@ struct pair {
     uint16_t one, other;
 };
 
-#define MANY(list) (sizeof(list) / sizeof *(list))
-
-static struct book named_book(uint16_t n, uint16_t m, const struct pair *links, size_t many_links, const struct pair *rules, size_t many_rules) {
-    struct book b = {n, m, {0}, {0}, {0}, {0}};
+static struct book named_book(uint16_t n, uint16_t m, const struct pair *links, size_t many_links,
+                              const struct pair *rules, size_t many_rules) {
+    struct book b;
+    memset(&b, 0, sizeof b);
+    b.n = n;
+    b.m = m;
     for (size_t i = 0; i < many_links; i++) b.links[links[i].one * n + links[i].other] = 1;
     for (size_t i = 0; i < many_rules; i++) b.rules[rules[i].one * m] = rules[i].other;
     work_out(&b);
@@ -290,52 +391,125 @@ static void hold_entries(const char *what, const struct book *b, const uint16_t 
     if (memcmp(b->entries, entries, sizeof *entries * b->n * b->m) != 0) fail(what, b);
 }
 
+/* Calls in a row, with what each answers. */
+struct step {
+    enum call call;
+    struct arguments arguments;
+    uint32_t answer;
+};
+
+static void hold_answers(const char *what, struct book *b, const struct step *steps, size_t many_steps) {
+    for (size_t i = 0; i < many_steps; i++) {
+        struct lent t = lend(b);
+        if (make(steps[i].call, &t, steps[i].arguments) != steps[i].answer) fail(what, b);
+    }
+}
+
+/* A book whose entries are written out before an edit and after it. */
+static void try_edit(const char *what, struct book b, const uint16_t *before, struct step edit, const uint16_t *after) {
+    hold_entries(what, &b, before);
+    try_book(&b);
+    hold_answers(what, &b, &edit, 1);
+    hold_entries(what, &b, after);
+    try_book(&b);
+}
+
 /* Kind 1 is put below kind 0 and keeps its own rule; for kind 2, below both, it now hides that of kind 0. */
 static void try_link_past_own_rule(void) {
     static const struct pair links[] = {{2, 0}, {2, 1}}, rules[] = {{0, 10}, {1, 20}};
     static const uint16_t before[] = {1, 2, 259}, after[] = {1, 2, 2};
-    struct book b = named_book(3, 1, links, MANY(links), rules, MANY(rules));
-    hold_entries("a disputed entry", &b, before);
-    try_book(&b);
-    if (house_add_link(LENT(&b), 1, 0) != 1) fail("a link past an own rule", &b);
-    hold_entries("a link past an own rule", &b, after);
-    try_book(&b);
+    try_edit("a link past an own rule", named_book(3, 1, links, MANY(links), rules, MANY(rules)), before,
+             (struct step){ADD_LINK, {1, 0, 0}, 1}, after);
 }
 
-/* A rule at kind 2 leaves kind 3 disputed as it was, and yet kind 5 below that one is newly disputed: kind 4 hid the others, but not this. */
+/* A rule at kind 2 leaves kind 3 disputed as it was, and yet kind 5 below that one is newly disputed: kind 4 hid the
+   others, but not this. */
 static void try_rule_past_same_entry(void) {
-    static const struct pair links[] = {{3, 0}, {3, 1}, {3, 2}, {4, 0}, {4, 1}, {5, 3}, {5, 4}}, rules[] = {{0, 10}, {1, 20}, {4, 20}};
+    static const struct pair links[] = {{3, 0}, {3, 1}, {3, 2}, {4, 0}, {4, 1}, {5, 3}, {5, 4}},
+                             rules[] = {{0, 10}, {1, 20}, {4, 20}};
     static const uint16_t before[] = {1, 2, 0, 260, 5, 5}, after[] = {1, 2, 3, 260, 5, 262};
-    struct book b = named_book(6, 1, links, MANY(links), rules, MANY(rules));
-    hold_entries("a hidden pair", &b, before);
-    try_book(&b);
-    if (house_add_rule(LENT(&b), 2, 0, 20) != 2) fail("a rule past the same entry", &b);
-    hold_entries("a rule past the same entry", &b, after);
-    try_book(&b);
+    try_edit("a rule past the same entry", named_book(6, 1, links, MANY(links), rules, MANY(rules)), before,
+             (struct step){ADD_RULE, {2, 0, 20}, 2}, after);
 }
 
-/* The session's book, stored when kind 3 was still disputed. */
-static void try_stored_session(void) {
+/* The diamond, stored when kind 3 was still disputed: nothing is edited before refresh has brought it over. */
+static void try_stored_diamond(void) {
     static const struct pair links[] = {{1, 0}, {2, 0}, {3, 1}, {3, 2}}, rules[] = {{0, 10}, {1, 20}};
-    static const uint16_t stored[] = {1, 0, 2, 0, 1, 0, 260, 0}, now[] = {1, 0, 2, 0, 1, 0, 2, 0}, after[] = {1, 0, 2, 0, 3, 0, 260, 0};
+    static const uint16_t stored[] = {1, 0, 2, 0, 1, 0, 260, 0}, now[] = {1, 0, 2, 0, 1, 0, 2, 0},
+                          after[] = {1, 0, 2, 0, 3, 0, 260, 0};
+    static const struct step refused[] =
+        {
+            {INSPECT, {0, 0, 0}, HOUSE_WRONG_ENTRY + 6},
+            {ADD_RULE, {2, 0, 20}, HOUSE_REFUSED_UNSOUND},
+            {TAKE_RULE, {2, 0, 0}, HOUSE_REFUSED_UNSOUND},
+            {ADD_LINK, {3, 1, 0}, HOUSE_REFUSED_UNSOUND},
+            {ADD_LINK, {0, 3, 0}, HOUSE_REFUSED_UNSOUND},
+            {TAKE_LINK, {3, 2, 0}, HOUSE_REFUSED_UNSOUND},
+            {TAKE_LINK, {3, 0, 0}, HOUSE_REFUSED_UNSOUND},
+            {ADD_RULE, {4, 2, 0}, HOUSE_REFUSED_KIND},
+            {ADD_RULE, {2, 2, 0}, HOUSE_REFUSED_MARK},
+            {ADD_RULE, {2, 0, 0}, HOUSE_REFUSED_HANDLING},
+        },
+        refreshed[] = {{REFRESH, {0, 0, 0}, 1}, {INSPECT, {0, 0, 0}, HOUSE_SOUND}},
+        edited[] = {{ADD_RULE, {2, 0, 20}, 2}};
     struct book b = named_book(4, 2, links, MANY(links), rules, MANY(rules)), lent;
-    hold_entries("the session", &b, now);
+    hold_entries("the diamond", &b, now);
     try_book(&b);
     for (unsigned i = 0; i < MANY(stored); i++) b.entries[i] = (uint16_t)old_lookup(&b, i / b.m, i % b.m);
-    hold_entries("the stored session", &b, stored);
+    hold_entries("the stored diamond", &b, stored);
     lent = b;
-    if (house_inspect(LENT(&lent)) != HOUSE_WRONG_ENTRY + 6) fail("inspect of the stored session", &b);
-    if (house_add_rule(LENT(&lent), 2, 0, 20) != FIVE || house_take_rule(LENT(&lent), 2, 0) != FIVE) fail("rules of the stored session", &b);
-    if (house_add_link(LENT(&lent), 3, 1) != FIVE || house_add_link(LENT(&lent), 0, 3) != FIVE) fail("links of the stored session", &b);
-    if (house_take_link(LENT(&lent), 3, 2) != FIVE || house_take_link(LENT(&lent), 3, 0) != FIVE) fail("links of the stored session", &b);
-    if (house_add_rule(LENT(&lent), 4, 2, 0) != HOUSE_REFUSED + 2 || house_add_rule(LENT(&lent), 2, 2, 0) != HOUSE_REFUSED + 3 ||
-        house_add_rule(LENT(&lent), 2, 0, 0) != HOUSE_REFUSED + 4)
-        fail("first refusals of the stored session", &b);
-    if (memcmp(&lent, &b, sizeof lent) != 0) fail("tables of the stored session", &b);
-    if (house_refresh(LENT(&lent)) != 1) fail("refresh of the stored session", &b);
-    hold_entries("refresh of the stored session", &lent, now);
-    if (house_inspect(LENT(&lent)) != HOUSE_SOUND || house_add_rule(LENT(&lent), 2, 0, 20) != 2) fail("the session brought over", &lent);
-    hold_entries("the session brought over", &lent, after);
+    hold_answers("a call on the stored diamond", &lent, refused, MANY(refused));
+    if (memcmp(&lent, &b, sizeof lent) != 0) fail("tables of the stored diamond", &b);
+    hold_answers("the diamond brought over", &lent, refreshed, MANY(refreshed));
+    hold_entries("the diamond brought over", &lent, now);
+    hold_answers("an edit of the diamond brought over", &lent, edited, MANY(edited));
+    hold_entries("an edit of the diamond brought over", &lent, after);
+}
+
+/* ---- sizes at and past the edges */
+
+/* Tables for more kinds and marks than a book may have. */
+static struct room {
+    uint8_t links[129 * 129];
+    uint16_t rules[129 * 65], entries[129 * 65];
+    uint32_t tally[1];
+} room, other_room;
+
+/* Of a room its leading part, as long as the size asks. */
+static struct lent fitting(struct room *r, size_t n, size_t m) {
+    return (struct lent){(uint16_t)n, (uint16_t)m, r->links, r->rules, r->entries, r->tally, {n * n, n * m, n * m, 1}};
+}
+
+/* Every call refuses a size outside the range, though the tables fit it, and writes nothing. */
+static void try_sizes_outside(void) {
+    static const struct pair sizes[] = {{0, 0}, {0, 2}, {4, 0}, {129, 2}, {4, 65}, {129, 65}};
+    for (unsigned i = 0; i < MANY(sizes) * CALLS * 2; i++) {
+        struct pair size = sizes[i / 2 / CALLS];
+        struct lent t = fitting(&room, size.one, size.other);
+        enum call call = i / 2 % CALLS;
+        memset(&room, i % 2 == 0 ? 0 : 165, sizeof room);
+        memcpy(&other_room, &room, sizeof room);
+        if (counted(call, &t, (struct arguments){0, 0, 20}) != HOUSE_REFUSED_BOOK ||
+            memcmp(&room, &other_room, sizeof room) != 0)
+            fail_at(calls[call].name, t.n, t.m);
+    }
+}
+
+/* A book at the edges of the range, opened over other numbers, is all 0, and it has its last kind and mark. */
+static void try_sizes_at_the_edges(void) {
+    static const struct pair sizes[] = {{1, 1}, {1, 64}, {128, 1}, {128, 64}};
+    for (size_t i = 0; i < MANY(sizes); i++) {
+        uint16_t n = sizes[i].one, m = sizes[i].other;
+        struct lent t = fitting(&room, n, m);
+        memset(&room, 165, sizeof room);
+        memset(&other_room, 165, sizeof room);
+        emptied(fitting(&other_room, n, m));
+        if (counted(OPEN, &t, (struct arguments){0, 0, 0}) != 0 || memcmp(&room, &other_room, sizeof room) != 0)
+            fail_at("open", n, m);
+        if (counted(ADD_RULE, &t, (struct arguments){(uint16_t)(n - 1), (uint16_t)(m - 1), 65535}) != 1 ||
+            room.entries[n * m - 1] != n || counted(INSPECT, &t, (struct arguments){0, 0, 0}) != HOUSE_SOUND)
+            fail_at("a rule of the last kind and mark", n, m);
+    }
 }
 
 static uint64_t state = 88172645463325252u;
@@ -344,6 +518,21 @@ static unsigned long chance(void) {
     state ^= state >> 7;
     state ^= state << 17;
     return (unsigned long)(state >> 20);
+}
+
+/* Every answer of every call came up often. */
+static void hold_counts(void) {
+    int rare = old_books < 1000;
+    if (rare) fprintf(stderr, "only %lu books have other entries by the old lookup\n", old_books);
+    for (enum call call = 0; call < CALLS; call++)
+        for (size_t i = 0; i < MANY(calls[call].refusals); i++) {
+            unsigned refusal = calls[call].refusals[i];
+            unsigned long times = answers[call][refusal];
+            if (times >= 1000) continue;
+            fprintf(stderr, "%s gave refusal %u (0 is none) only %lu times\n", calls[call].name, refusal, times);
+            rare = 1;
+        }
+    if (rare) exit(EXIT_FAILURE);
 }
 
 int main(void) {
@@ -355,21 +544,15 @@ int main(void) {
                     if (make_book(&b, n, m, links, rules)) try_book(&b);
     unsigned long all = books;
     while (books < all + 15000)
-        if (make_book(&b, (uint16_t)(books % 10 == 9 ? 6 : 4 + books % 2), 2, chance() & chance(), chance())) try_book(&b);
+        if (make_book(&b, (uint16_t)(books % 10 == 9 ? 6 : 4 + books % 2), 2, chance() & chance(), chance()))
+            try_book(&b);
     try_link_past_own_rule();
     try_rule_past_same_entry();
-    try_stored_session();
-    for (size_t r = 2; r <= 9; r++)
-        if (refusals[r] < 1000) {
-            fprintf(stderr, "refusal %zu came up only %lu times\n", r, refusals[r]);
-            return EXIT_FAILURE;
-        }
-    if (refusals[11] < 1000 || edits_done < 100000) return EXIT_FAILURE;
-    if (old_books < 1000) {
-        fprintf(stderr, "only %lu books have other entries by the old lookup\n", old_books);
-        return EXIT_FAILURE;
-    }
-    printf("%lu books, %lu of them all those of up to 3 kinds and 2 marks, %lu not sound as stored before; %lu calls\n", books, all, old_books,
-           calls_made);
+    try_stored_diamond();
+    try_sizes_outside();
+    try_sizes_at_the_edges();
+    hold_counts();
+    printf("%lu books, %lu of them all those of up to 3 kinds and 2 marks, %lu not sound as stored before; %lu calls\n",
+           books, all, old_books, calls_made);
     return EXIT_SUCCESS;
 }

@@ -11,8 +11,8 @@ struct book {
     size_t links_len, rules_len, entries_len, tally_len;
 };
 
-/* The book of document 01's session, once kind 1 has its rule: 4 kinds and 2 marks. Kinds 1 and 2 are under kind 0, and
-   kind 3 is under both:
+/* The diamond of docs/FORMS.md, once kinds 0, 1 and 2 have their rules: 4 kinds and 2 marks. Kinds 1 and 2 are under
+   kind 0, and kind 3 is under both:
 
          0      has rule 10 for mark 0
         / \
@@ -20,8 +20,9 @@ struct book {
         \ /
          3
 
-   The lookups for mark 0: kinds 0, 1 and 2 have their own rules. Kind 3 sees those of kinds 1 and 2, and neither is above the
-   other, so there is a dispute at kind 3 though both say 20; both hide the rule of kind 0. Nobody has a rule for mark 1. */
+   The lookups for mark 0: kinds 0, 1 and 2 have their own rules. Kind 3 sees those of kinds 1 and 2, and neither is
+   above the other, so there is a dispute at kind 3 though both say 20; both hide the rule of kind 0. Nobody has a rule
+   for mark 1. */
 static const uint8_t links[4 * 4] = {
     /* parent 0, 1, 2, 3 */
     0, 0, 0, 0, /* of kind 0 */

@@ -1,37 +1,179 @@
-/* The calls of a house, for programs written in C: the tables are lent as numbers, each as a pointer and then its number of elements.
-   "rt staticlib house" writes target/staticlib/libhouse.a. Document 01 says what each call does and why it refuses. */
+/* The calls of a house, for programs written in C or C++: open a book, edit its links and rules, see whose rules are in
+   dispute, inspect a book and refresh it. The find is in lane.h.
+
+   docs/SCOPE.md says call by call what the product does, and the library is proved to do it. "rt staticlib house"
+   writes target/staticlib/libhouse.a, which links into x86-64 programs, beside liblane.a where a program asks the find
+   too.
+
+   THE BOOK. A book has n kinds (1 to 128, numbered from 0) and m marks (1 to 64, numbered from 0). It is four tables,
+   which are the caller's own memory:
+
+     table    elements  their number  what it holds
+     links    uint8_t   n * n         place child * n + parent holds 1 where the child is directly under the parent, and
+                                      0 for no link
+     rules    uint16_t  n * m         place kind * m + mark holds the kind's own handling for the mark, 1 to 65535, or 0
+                                      for no own rule
+     entries  uint16_t  n * m         at the same places the lookup (below): 0 for none, O + 1 for the rule of kind O,
+                                      257 + X for a dispute at kind X
+     tally    uint32_t  1             the accepted edits since opening; at 4294967295 it stays
+
+   THE LOOKUP. Kind P is above kind C if a chain of one or more links leads from C up to P. The lookup at a kind and a
+   mark starts from the kinds with their own rule for the mark that are seen: the kind itself if it has one, otherwise
+   those that a chain leads up to with no own rule before them. Each one that is above another of them is dropped. The
+   rest are the kinds left. None left: none. One left: its rule. Two or more left: a dispute, at X if every direct
+   parent whose lookup is not none has the dispute at X, otherwise at the kind itself. Handlings are not compared: two
+   kinds that both say 20 are two.
+
+   A SOUND BOOK is one where every link byte is 0 or 1, no kind is above itself, and every entry is its lookup. Rules
+   and tally may hold anything. An opened book is sound, and each call leaves a sound book sound.
+
+   LENDING. Each call takes n, m and the four tables, each as a pointer and then its number of elements, not of bytes.
+   It writes those tables that are not const, and nothing else of the caller's. Numbers are the machine's own, which on
+   x86-64 has the lowest byte first. A call takes each length at its word: that many elements must be there, at an
+   address that is right for their type, and no two tables may overlap. A length that is not the book's is refused, so
+   NULL with 0 is refused too.
+
+   TAKING TURNS. While a call runs, nothing else writes any of the book's tables, and nothing else reads those that it
+   writes. So calls on one book take turns, unless all of them only read: either a lock is held around each call, finds
+   included, or a copy is edited and swapped in once the call is back, and lanes go on with the old one meanwhile. The
+   library keeps nothing between calls, so calls on different books may run at the same time.
+
+   MEMORY. A call takes stack and nothing else. Leave it 40 KB: c/stack.c measures 37 KB for inspect and refresh, 24 KB
+   for parties and 22 KB for an edit, on 128 kinds in one chain of links, which calls go along by recursion. Open takes
+   what memset takes.
+
+   FOR LANES the same memory goes to lane_find as bytes, whose order lane.h asks for is that of x86-64:
+
+     lane_find(n, m, links, n * n, (const uint8_t *)rules, 2 * n * m, (const uint8_t *)entries, 2 * n * m,
+               (const uint8_t *)tally, 4, kind, mark) */
 
 #ifndef HOUSE_H
 #define HOUSE_H
 
+#include <stdbool.h>
 #include <stddef.h>
 #include <stdint.h>
 
-/* A refusal is 65536 + its number. */
-enum { HOUSE_REFUSED = 65536 };
+#ifdef __cplusplus
+extern "C" {
+#endif
 
-/* Open and the edits write the tables that are not const; a refused call writes nothing. Open gives 0; an edit and a refresh give the number of
-   places whose entry differs from before. */
-uint32_t house_open(uint16_t n, uint16_t m, uint8_t *links, size_t links_len, uint16_t *rules, size_t rules_len, uint16_t *entries,
-                    size_t entries_len, uint32_t *tally, size_t tally_len);
-uint32_t house_add_rule(uint16_t n, uint16_t m, const uint8_t *links, size_t links_len, uint16_t *rules, size_t rules_len, uint16_t *entries,
-                        size_t entries_len, uint32_t *tally, size_t tally_len, uint16_t kind, uint16_t mark, uint16_t handling);
-uint32_t house_take_rule(uint16_t n, uint16_t m, const uint8_t *links, size_t links_len, uint16_t *rules, size_t rules_len, uint16_t *entries,
-                         size_t entries_len, uint32_t *tally, size_t tally_len, uint16_t kind, uint16_t mark);
-uint32_t house_add_link(uint16_t n, uint16_t m, uint8_t *links, size_t links_len, const uint16_t *rules, size_t rules_len, uint16_t *entries,
-                        size_t entries_len, uint32_t *tally, size_t tally_len, uint16_t child, uint16_t parent);
-uint32_t house_take_link(uint16_t n, uint16_t m, uint8_t *links, size_t links_len, const uint16_t *rules, size_t rules_len, uint16_t *entries,
-                         size_t entries_len, uint32_t *tally, size_t tally_len, uint16_t child, uint16_t parent);
-uint32_t house_refresh(uint16_t n, uint16_t m, const uint8_t *links, size_t links_len, const uint16_t *rules, size_t rules_len,
-                       uint16_t *entries, size_t entries_len, const uint32_t *tally, size_t tally_len);
+/* ---- refusals */
 
-/* Two different kinds whose rules meet: 256 * one + the other. */
-uint32_t house_parties(uint16_t n, uint16_t m, const uint8_t *links, size_t links_len, const uint16_t *rules, size_t rules_len,
-                       const uint16_t *entries, size_t entries_len, const uint32_t *tally, size_t tally_len, uint16_t kind, uint16_t mark);
+/* A refused call writes nothing. It answers one of these, 65536 + the refusal's number; numbers that are missing here
+   are of the find and of the text program. Below, each call has its refusals by number in the order of its checks: it
+   gives the first that applies, and no other. */
+enum {
+    HOUSE_REFUSED = 65536,
+    HOUSE_REFUSED_BOOK = 65536 + 1,        /* n or m is outside its range, or a table has not exactly its length */
+    HOUSE_REFUSED_KIND = 65536 + 2,        /* the book has no such kind: kind, child or parent is not below n */
+    HOUSE_REFUSED_MARK = 65536 + 3,        /* the book has no such mark: mark is not below m */
+    HOUSE_REFUSED_HANDLING = 65536 + 4,    /* handling is 0 */
+    HOUSE_REFUSED_UNSOUND = 65536 + 5,     /* the book is not sound, and inspect says where; of refresh: a link byte is
+                                              above 1, or a kind is above itself */
+    HOUSE_REFUSED_NO_RULE = 65536 + 6,     /* the kind has no own rule for the mark */
+    HOUSE_REFUSED_LINKED = 65536 + 7,      /* the link is there already */
+    HOUSE_REFUSED_NOT_LINKED = 65536 + 8,  /* there is no such link */
+    HOUSE_REFUSED_CYCLE = 65536 + 9,       /* the parent is the child, or the child is above the parent */
+    HOUSE_REFUSED_NO_DISPUTE = 65536 + 11  /* the entry is no dispute */
+};
 
-/* Sound, or the first fault, by place or kind. */
-enum { HOUSE_SOUND = 0, HOUSE_LINK_BYTE = 131072, HOUSE_ABOVE_ITSELF = 196608, HOUSE_WRONG_ENTRY = 262144 };
-uint32_t house_inspect(uint16_t n, uint16_t m, const uint8_t *links, size_t links_len, const uint16_t *rules, size_t rules_len,
-                       const uint16_t *entries, size_t entries_len, const uint32_t *tally, size_t tally_len);
+/* Whether an answer, of any call, is a refusal. */
+static inline bool house_is_refusal(uint32_t answer) {
+    return answer / 65536 == 1;
+}
+
+/* The number of a refusal, 1 to 11. Other answers have none. */
+static inline unsigned house_refusal(uint32_t answer) {
+    return answer % 65536;
+}
+
+/* ---- open */
+
+/* All numbers of the four tables become 0, whatever they were: a book with no links and no rules. Answers 0.
+   Refusals: 1. */
+uint32_t house_open(uint16_t n, uint16_t m, uint8_t *links, size_t links_len, uint16_t *rules, size_t rules_len,
+                    uint16_t *entries, size_t entries_len, uint32_t *tally, size_t tally_len);
+
+/* ---- the four edits */
+
+/* An edit changes one place of rules or of links, makes every entry its lookup again and adds 1 to the tally. It
+   answers the number of places of entries that differ from before, 0 to n * m. 0 is no refusal: the change was made. */
+
+/* The kind gets its own rule for the mark. A handling that is there is replaced, and the answer is then 0.
+   Refusals: 1, 2, 3, 4, 5. */
+uint32_t house_add_rule(uint16_t n, uint16_t m, const uint8_t *links, size_t links_len, uint16_t *rules,
+                        size_t rules_len, uint16_t *entries, size_t entries_len, uint32_t *tally, size_t tally_len,
+                        uint16_t kind, uint16_t mark, uint16_t handling);
+
+/* The kind loses its own rule for the mark. Refusals: 1, 2, 3, 5, 6. */
+uint32_t house_take_rule(uint16_t n, uint16_t m, const uint8_t *links, size_t links_len, uint16_t *rules,
+                         size_t rules_len, uint16_t *entries, size_t entries_len, uint32_t *tally, size_t tally_len,
+                         uint16_t kind, uint16_t mark);
+
+/* The child comes to be directly under the parent. Refusals: 1, 2, 5, 7, 9. */
+uint32_t house_add_link(uint16_t n, uint16_t m, uint8_t *links, size_t links_len, const uint16_t *rules,
+                        size_t rules_len, uint16_t *entries, size_t entries_len, uint32_t *tally, size_t tally_len,
+                        uint16_t child, uint16_t parent);
+
+/* The child is no longer directly under the parent. Refusals: 1, 2, 5, 8. */
+uint32_t house_take_link(uint16_t n, uint16_t m, uint8_t *links, size_t links_len, const uint16_t *rules,
+                         size_t rules_len, uint16_t *entries, size_t entries_len, uint32_t *tally, size_t tally_len,
+                         uint16_t child, uint16_t parent);
+
+/* ---- refresh */
+
+/* Every entry becomes its lookup, whatever it was; links, rules and tally stay. Answers the number of places of entries
+   that differ from before. This mends a book whose entries alone are wrong. Refusals: 1, 5. */
+uint32_t house_refresh(uint16_t n, uint16_t m, const uint8_t *links, size_t links_len, const uint16_t *rules,
+                       size_t rules_len, uint16_t *entries, size_t entries_len, const uint32_t *tally,
+                       size_t tally_len);
+
+/* ---- parties */
+
+/* Two of the kinds left at a kind and a mark that are in dispute: whose rules a person has to choose between. The two
+   are different. Which two of several, and which of them is the one and which the other, is not promised. Answers
+   256 * one + the other. Refusals: 1, 2, 3, 5, 11. */
+uint32_t house_parties(uint16_t n, uint16_t m, const uint8_t *links, size_t links_len, const uint16_t *rules,
+                       size_t rules_len, const uint16_t *entries, size_t entries_len, const uint32_t *tally,
+                       size_t tally_len, uint16_t kind, uint16_t mark);
+
+/* The two kinds. A refusal has none. */
+static inline uint16_t house_one(uint32_t answer) {
+    return (uint16_t)(answer / 256);
+}
+
+static inline uint16_t house_other(uint32_t answer) {
+    return (uint16_t)(answer % 256);
+}
+
+/* ---- inspect */
+
+/* Whether the book is sound, and if not, its first fault: link bytes come before kinds and kinds before entries, and of
+   each the lowest. Refusals: 1. */
+uint32_t house_inspect(uint16_t n, uint16_t m, const uint8_t *links, size_t links_len, const uint16_t *rules,
+                       size_t rules_len, const uint16_t *entries, size_t entries_len, const uint32_t *tally,
+                       size_t tally_len);
+
+/* What house_fault makes of an answer: one of these, or HOUSE_REFUSED. */
+enum {
+    HOUSE_SOUND = 0,             /* the whole answer: the book is sound */
+    HOUSE_LINK_BYTE = 131072,    /* + place: a link byte is above 1; the child is place / n, the parent place % n */
+    HOUSE_ABOVE_ITSELF = 196608, /* + kind: a chain of links leads from the kind up to itself */
+    HOUSE_WRONG_ENTRY = 262144   /* + place: an entry is not its lookup; the kind is place / m, the mark place % m */
+};
+
+static inline uint32_t house_fault(uint32_t answer) {
+    return answer - answer % 65536;
+}
+
+/* The place or the kind of a fault. */
+static inline uint16_t house_fault_at(uint32_t answer) {
+    return (uint16_t)(answer % 65536);
+}
+
+#ifdef __cplusplus
+}
+#endif
 
 #endif

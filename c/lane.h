@@ -1,7 +1,7 @@
 /* The find of the rule tree, for line controllers written in C or C++.
 
-   Document 01 says what it does ("The book", "Find"), and the library is proved to do it. "rt staticlib lane" writes
-   target/staticlib/liblane.a, which links into x86-64 programs.
+   docs/SCOPE.md says what it does, and the library is proved to do it. "rt staticlib lane" writes
+   target/staticlib/liblane.a, which links into x86-64 programs. The calls that make and edit a book are in house.h.
 
    A book has n kinds (1 to 128, numbered from 0) and m marks (1 to 64, numbered from 0). It is four tables:
 
@@ -36,7 +36,7 @@ extern "C" {
 
    Each table is a pointer and then its length in bytes. lane_find only reads, and nothing outside the tables. It takes
    each length at its word: that many bytes must be there to read. A length that is not the book's is refused, so NULL
-   with 0 is refused too. Calls on one book come one after another, and nothing else writes its tables meanwhile.
+   with 0 is refused too. While it runs, nothing writes the tables; several lanes may ask at the same time.
 
    It looks at one entry and, where that is a rule, at the rule's handling. Whether the other entries are right, or the
    links make sense, it does not test. */

@@ -1,5 +1,5 @@
-/* Holds lane_find to a version of find that is written here in plain C from document 01: on the edges one by one, then
-   on random books, sound and damaged. It fails where the two differ, or where an outcome came up too seldom.
+/* Holds lane_find to a version of find that is written here in plain C from docs/SCOPE.md: on the edges one by one,
+   then on random books, sound and damaged. It fails where the two differ, or where an outcome came up too seldom.
 
    AddressSanitizer sees the reads of this file but not those of the library, which is compiled without it. So this file
    reads tables that malloc made exactly as long as they are, and the library is lent copies that stand against pages
@@ -73,7 +73,7 @@ static void put_number(struct table *table, size_t place, unsigned number) {
     table->bytes[2 * place + 1] = (uint8_t)(number / 256);
 }
 
-/* ---- find, from document 01 */
+/* ---- find, from docs/SCOPE.md */
 
 enum outcome {
     NONE,

@@ -1,0 +1,160 @@
+/* A house in small: it opens a book, edits it while a lane asks, sees a dispute, and mends a damaged copy.
+
+     cc -o house_example c/house_example.c target/staticlib/libhouse.a target/staticlib/liblane.a */
+
+#include <stdio.h>
+
+#include "house.h"
+#include "lane.h"
+
+/* A book of 4 kinds and 2 marks. */
+enum { N = 4, M = 2 };
+
+struct book {
+    uint8_t links[N * N];
+    uint16_t rules[N * M], entries[N * M];
+    uint32_t tally[1];
+};
+
+/* What every call starts with: the size, and the four tables with their numbers of elements. */
+#define LENT(b) N, M, (b)->links, N * N, (b)->rules, N * M, (b)->entries, N * M, (b)->tally, 1
+
+static const char *refusal_name(uint32_t answer) {
+    switch (answer) {
+    case HOUSE_REFUSED_BOOK:
+        return "the tables have not the right size";
+    case HOUSE_REFUSED_KIND:
+        return "there is no such kind";
+    case HOUSE_REFUSED_MARK:
+        return "there is no such mark";
+    case HOUSE_REFUSED_HANDLING:
+        return "0 is no handling";
+    case HOUSE_REFUSED_UNSOUND:
+        return "the book is not sound";
+    case HOUSE_REFUSED_NO_RULE:
+        return "there is no rule to take";
+    case HOUSE_REFUSED_LINKED:
+        return "the link is there already";
+    case HOUSE_REFUSED_NOT_LINKED:
+        return "there is no link to take";
+    case HOUSE_REFUSED_CYCLE:
+        return "the kind would be above itself";
+    case HOUSE_REFUSED_NO_DISPUTE:
+        return "there is no dispute";
+    default:
+        return "an answer of no call";
+    }
+}
+
+/* Prints what an edit or a refresh answered, or any refusal. */
+static void tell(const char *call, uint32_t answer) {
+    if (house_is_refusal(answer)) {
+        printf("%-24s refused: %s (refusal %u)\n", call, refusal_name(answer), house_refusal(answer));
+    } else {
+        printf("%-24s done, entries that changed: %u\n", call, (unsigned)answer);
+    }
+}
+
+/* A lane asks the same memory, as bytes. */
+static void ask(const struct book *b, uint16_t kind, uint16_t mark) {
+    uint32_t answer = lane_find(N, M, b->links, sizeof b->links, (const uint8_t *)b->rules, sizeof b->rules,
+                                (const uint8_t *)b->entries, sizeof b->entries, (const uint8_t *)b->tally,
+                                sizeof b->tally, kind, mark);
+    printf("  kind %d, mark %d: ", kind, mark);
+    if (lane_is_rule(answer)) {
+        printf("handle as %d, by the rule of kind %d\n", lane_handling(answer), lane_kind(answer));
+    } else if (lane_is_dispute(answer)) {
+        printf("send to a person, the rules disagree at kind %d\n", lane_kind(answer));
+    } else if (answer == LANE_NONE) {
+        puts("let it pass, there is no rule");
+    } else {
+        printf("stop the lane, refusal %u\n", (unsigned)answer);
+    }
+}
+
+/* Prints who is in dispute. Which of the two comes first is not promised, so the lower kind is printed first. */
+static void show_parties(const struct book *b, uint16_t kind, uint16_t mark) {
+    uint32_t answer = house_parties(LENT(b), kind, mark);
+    if (house_is_refusal(answer)) {
+        tell("parties", answer);
+        return;
+    }
+    int one = house_one(answer), other = house_other(answer);
+    printf("  between the rules of kinds %d and %d\n", one < other ? one : other, one < other ? other : one);
+}
+
+static void inspect(const struct book *b) {
+    uint32_t answer = house_inspect(LENT(b));
+    int at = house_fault_at(answer);
+    printf("%-24s ", "inspect");
+    switch (house_fault(answer)) {
+    case HOUSE_SOUND:
+        puts("the book is sound");
+        break;
+    case HOUSE_LINK_BYTE:
+        printf("the link byte of child %d and parent %d is above 1\n", at / N, at % N);
+        break;
+    case HOUSE_ABOVE_ITSELF:
+        printf("kind %d is above itself\n", at);
+        break;
+    case HOUSE_WRONG_ENTRY:
+        printf("the entry of kind %d and mark %d is wrong\n", at / M, at % M);
+        break;
+    default:
+        printf("refused: %s\n", refusal_name(answer));
+        break;
+    }
+}
+
+/* The diamond: kinds 1 and 2 are under kind 0, and kind 3 is under both. */
+static void link_kinds(struct book *book) {
+    tell("add link 1 under 0", house_add_link(LENT(book), 1, 0));
+    tell("add link 2 under 0", house_add_link(LENT(book), 2, 0));
+    tell("add link 3 under 1", house_add_link(LENT(book), 3, 1));
+    tell("add link 3 under 2", house_add_link(LENT(book), 3, 2));
+    tell("add link 0 under 3", house_add_link(LENT(book), 0, 3));
+}
+
+/* All kinds inherit from kind 0; then kind 1 hides that rule from kind 3, by the way over kind 2 too. Of kinds 1 and 2
+   neither is above the other, so their rules meet at kind 3, though both say 20. */
+static void make_rules(struct book *book) {
+    tell("add rule 0, mark 0: 10", house_add_rule(LENT(book), 0, 0, 10));
+    ask(book, 3, 0);
+    tell("add rule 1, mark 0: 20", house_add_rule(LENT(book), 1, 0, 20));
+    ask(book, 3, 0);
+    tell("add rule 2, mark 0: 20", house_add_rule(LENT(book), 2, 0, 20));
+    ask(book, 3, 0);
+    show_parties(book, 3, 0);
+    inspect(book);
+}
+
+/* A lane takes the damaged entry at its word. The house finds it, edits nothing before it is mended, and mends it. */
+static void mend(struct book copy) {
+    copy.entries[3 * M + 0] = 0 + 1;
+    ask(&copy, 3, 0);
+    inspect(&copy);
+    tell("take rule 2, mark 0", house_take_rule(LENT(&copy), 2, 0));
+    tell("refresh", house_refresh(LENT(&copy)));
+    inspect(&copy);
+    ask(&copy, 3, 0);
+}
+
+int main(void) {
+    struct book book;
+    uint32_t answer = house_open(LENT(&book));
+    if (house_is_refusal(answer)) {
+        tell("open", answer);
+        return 1;
+    }
+    puts("a new book");
+    link_kinds(&book);
+    make_rules(&book);
+    puts("a copy of it, the entry of kind 3 and mark 0 overwritten");
+    mend(book);
+    puts("the book itself");
+    tell("take link 3 under 2", house_take_link(LENT(&book), 3, 2));
+    ask(&book, 3, 0);
+    ask(&book, 3, 1);
+    printf("edits accepted: %u\n", (unsigned)book.tally[0]);
+    return 0;
+}

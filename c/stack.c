@@ -1,0 +1,100 @@
+/* Measures the stack that each call of a house takes, and fails past what house.h tells a caller to leave. The book has
+   128 kinds in one chain of links, the longest that there is, since calls go along the links by recursion. */
+
+#define _DEFAULT_SOURCE /* for makecontext */
+
+#include <stdio.h>
+#include <stdlib.h>
+#include <string.h>
+#include <ucontext.h>
+
+#include "house.h"
+
+enum { N = 128, M = 64, LEFT = 40 * 1024, FILL = 165 };
+
+static uint8_t links[N * N];
+static uint16_t rules[N * M], entries[N * M];
+static uint32_t tally[1];
+
+#define BOOK N, M, links, N * N, rules, N * M, entries, N * M, tally, 1
+
+static uint32_t answer;
+
+static void nothing(void) {
+    answer = 0;
+}
+static void add_rule(void) {
+    answer = house_add_rule(BOOK, N - 1, 0, 20);
+}
+static void take_rule(void) {
+    answer = house_take_rule(BOOK, N - 1, 0);
+}
+static void take_link(void) {
+    answer = house_take_link(BOOK, N - 2, N - 1);
+}
+static void add_link(void) {
+    answer = house_add_link(BOOK, N - 2, N - 1);
+}
+static void parties(void) {
+    answer = house_parties(BOOK, 0, 0);
+}
+static void refresh(void) {
+    answer = house_refresh(BOOK);
+}
+static void inspect(void) {
+    answer = house_inspect(BOOK);
+}
+static void open_book(void) {
+    answer = house_open(BOOK);
+}
+
+/* In an order in which each gets past its refusals; there is no dispute, but parties has then done all else. */
+static const struct {
+    const char *name;
+    void (*make)(void);
+    uint32_t answer;
+} calls[] = {
+    {"add rule", add_rule, N},
+    {"take rule", take_rule, N},
+    {"take link", take_link, 0},
+    {"add link", add_link, 0},
+    {"parties", parties, HOUSE_REFUSED_NO_DISPUTE},
+    {"refresh", refresh, 0},
+    {"inspect", inspect, HOUSE_SOUND},
+    {"open", open_book, 0},
+};
+
+/* Makes a call on a stack that is filled with one number, and counts from its upper end to the lowest byte that is
+   another one now. */
+static size_t used(void (*make)(void)) {
+    static uint8_t stack[1 << 18];
+    static ucontext_t here, there;
+    size_t free_bytes = 0;
+    memset(stack, FILL, sizeof stack);
+    getcontext(&there);
+    there.uc_stack.ss_sp = stack;
+    there.uc_stack.ss_size = sizeof stack;
+    there.uc_link = &here;
+    makecontext(&there, make, 0);
+    swapcontext(&here, &there);
+    while (free_bytes < sizeof stack && stack[free_bytes] == FILL) {
+        free_bytes++;
+    }
+    return sizeof stack - free_bytes;
+}
+
+int main(void) {
+    size_t unrelated = used(nothing);
+    for (unsigned c = 0; c + 1 < N; c++) {
+        links[c * N + c + 1] = 1;
+    }
+    for (size_t i = 0; i < sizeof calls / sizeof *calls; i++) {
+        size_t taken = used(calls[i].make) - unrelated;
+        printf("%s takes %zu bytes of stack\n", calls[i].name, taken);
+        if (answer != calls[i].answer || taken > LEFT) {
+            fprintf(stderr, "%s answered %u, or took more than %d bytes\n", calls[i].name, (unsigned)answer, LEFT);
+            return EXIT_FAILURE;
+        }
+    }
+    return EXIT_SUCCESS;
+}
