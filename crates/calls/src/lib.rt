@@ -5,13 +5,13 @@ use tables::Call;
 use tables::Request;
 ghost use Rattle.tables.specs.Books.{Carried, callOf, answered};
 ghost use Rattle.tables.specs.Tables.{lent};
+pub use disputing::parties;
 pub use edits::add_link;
 pub use edits::add_rule;
 pub use edits::take_link;
 pub use edits::take_rule;
+pub use finding::find;
 pub use inspecting::inspect;
-pub use questions::find;
-pub use questions::parties;
 pub use renewing::open;
 pub use renewing::refresh;
 

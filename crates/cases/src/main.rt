@@ -1,11 +1,9 @@
-// Puts the lines of a session to session::line, and prints each with its answer: document 01's session, then the edges that it names.
+// Puts the lines of a session to session::line, and prints each with its answer: the worked session, then the edges.
 use libc::STDOUT_FILENO;
 use session::Turned;
 use tables::TALLIES;
 ghost use Prim.Native.Nat.{_+_, _≤_, _<_};
 ghost use lib.ListN.{length};
-ghost use Rattle.tables.specs.Tables.{lent};
-ghost use Rattle.session.specs.Parts.{Room};
 
 // The size of the book, and where the line begins.
 struct State {
@@ -19,14 +17,12 @@ fn show(
     line: &[u8],
     n: u16,
     m: u16,
-    links: &mut [u8],
-    rules: &mut [u16],
-    entries: &mut [u16],
-    tally: &mut [u32],
+    links: &mut [u8; 16384],
+    rules: &mut [u16; 8192],
+    entries: &mut [u16; 8192],
+    tally: &mut [u32; TALLIES],
     text: &mut [u8; 64],
-) -> Turned
-    requires { ⌜ Room (lent (now links) (now rules) (now entries) (now tally)) ⌝ }
-{
+) -> Turned {
     let turned = session::line(line, n, m, links, rules, entries, tally, text);
     let whole: &[u8] = text;
     let length = turned.length;
@@ -42,13 +38,12 @@ fn step(
     lines: &[u8],
     at: usize,
     state: State,
-    links: &mut [u8],
-    rules: &mut [u16],
-    entries: &mut [u16],
-    tally: &mut [u32],
+    links: &mut [u8; 16384],
+    rules: &mut [u16; 8192],
+    entries: &mut [u16; 8192],
+    tally: &mut [u32; TALLIES],
     text: &mut [u8; 64],
 ) -> State
-    requires { ⌜ Room (lent (now links) (now rules) (now entries) (now tally)) ⌝ }
     requires { ⌜ (state .from ≤ at) × (at < length (now lines)) ⌝ }
     ensures { λ r. ⌜ r .from ≤ at + 1 ⌝ }
 {
@@ -76,14 +71,12 @@ fn step(
 // The lines, each of which ends in a line feed, one after the other.
 fn run(
     lines: &[u8],
-    links: &mut [u8],
-    rules: &mut [u16],
-    entries: &mut [u16],
-    tally: &mut [u32],
+    links: &mut [u8; 16384],
+    rules: &mut [u16; 8192],
+    entries: &mut [u16; 8192],
+    tally: &mut [u32; TALLIES],
     text: &mut [u8; 64],
-)
-    requires { ⌜ Room (lent (now links) (now rules) (now entries) (now tally)) ⌝ }
-{
+) {
     let mut state = State {
         n: 0,
         m: 0,

@@ -1,5 +1,5 @@
 -- The forms that the text program reads. A line is here without its line feed.
---     Form      what a line asks for; bad: it has none of document 01's forms, which is refusal 12
+--     Form      what a line asks for; bad: it has none of the forms, which is refusal 12
 --     formOf    what a line asks for: over 64 bytes, empty, or of any other shape, it is bad
 --     formed    the form that each case of the code's enum stands for
 -- Assumes nothing.

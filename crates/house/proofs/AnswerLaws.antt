@@ -6,7 +6,7 @@ use Prim.Native.Nat.{ℕ}
 use Rattle.tables.specs.Calls.{Outcome, leaves}
 use Rattle.tables.specs.Reply.{Reply}
 use Rattle.tables.specs.Tables.{Tables}
-use Rattle.house.specs.Packed.{Answers}
+use Rattle.packing.specs.Packed.{Answers}
 
 pub packed-answer : {A : Type 0} (pack : Reply A → ℕ) (reply : Reply A) {tables : Tables} {outcome : Outcome A} {number : ℕ}
     → leaves reply tables ≡ outcome → number ≡ pack reply → Answers pack outcome number tables

@@ -1,67 +1,14 @@
 // The calls of a house for programs written in C: each answer is one number, and the tables are lent as numbers.
 use inheritance::Kind;
 use inheritance::Mark;
-use tables::Edited;
-use tables::Inspected;
-use tables::Opened;
-use tables::Pair;
-use tables::Refusal;
+use packing::pack_edited;
+use packing::pack_inspected;
+use packing::pack_opened;
+use packing::pack_pair;
 ghost use mathlib.Core.Path.{_≡_};
-ghost use Prim.Native.Nat.{_+_};
 ghost use Rattle.tables.specs.Calls.{openBook, addRule, takeRule, addLink, takeLink, inspect, refresh};
-ghost use Rattle.tables.specs.Reply.{refusalNumber, opened, edited, paired, inspected};
 ghost use Rattle.tables.specs.Tables.{lent};
-ghost use Rattle.house.specs.Packed.{packedOpened, packedEdited, packedPair, packedFault, Answers, GivesPair};
-
-// A refusal as a number.
-fn pack_refusal(why: Refusal) -> u32
-    ensures { λ r. ⌜ r ≡ 65536 + refusalNumber why ⌝ }
-{
-    65536 + why.number() as u32
-}
-
-// What open answers as a number.
-fn pack_opened(reply: Opened) -> u32
-    ensures { λ r. ⌜ r ≡ packedOpened (opened reply) ⌝ }
-{
-    match reply {
-        Opened::Done => 0,
-        Opened::Refused(why) => pack_refusal(why),
-    }
-}
-
-// What an edit or a refresh answers as a number.
-fn pack_edited(reply: Edited) -> u32
-    ensures { λ r. ⌜ r ≡ packedEdited (edited reply) ⌝ }
-{
-    match reply {
-        Edited::Done(count) => count as u32,
-        Edited::Refused(why) => pack_refusal(why),
-    }
-}
-
-// What parties answers as a number.
-fn pack_pair(reply: Pair) -> u32
-    ensures { λ r. ⌜ r ≡ packedPair (paired reply) ⌝ }
-{
-    match reply {
-        Pair::Kinds(one, other) => 256 * one.0 as u32 + other.0 as u32,
-        Pair::Refused(why) => pack_refusal(why),
-    }
-}
-
-// What inspect answers as a number.
-fn pack_inspected(reply: Inspected) -> u32
-    ensures { λ r. ⌜ r ≡ packedFault (inspected reply) ⌝ }
-{
-    match reply {
-        Inspected::Sound => 0,
-        Inspected::LinkByte(place) => 131072 + place as u32,
-        Inspected::AboveItself(kind) => 196608 + kind.0 as u32,
-        Inspected::WrongEntry(place) => 262144 + place as u32,
-        Inspected::Refused(why) => pack_refusal(why),
-    }
-}
+ghost use Rattle.packing.specs.Packed.{packedOpened, packedEdited, packedFault, Answers, GivesPair};
 
 // Open.
 #[no_mangle]
@@ -137,16 +84,9 @@ pub extern "C" fn house_add_link(
 ) -> u32
     ensures { λ r. ⌜ Answers packedEdited (addLink n m (lent (now (links .entry)) (now (rules .entry)) (now (entries .entry)) (now (tally .entry))) child parent) r (lent (now (links .exit)) (now (rules .entry)) (now (entries .exit)) (now (tally .exit))) ⌝ }
 {
-    pack_edited(calls::add_link(
-        n,
-        m,
-        links,
-        rules,
-        entries,
-        tally,
-        Kind(child),
-        Kind(parent),
-    ))
+    let c = Kind(child);
+    let p = Kind(parent);
+    pack_edited(calls::add_link(n, m, links, rules, entries, tally, c, p))
 }
 
 // Take link.
@@ -163,16 +103,9 @@ pub extern "C" fn house_take_link(
 ) -> u32
     ensures { λ r. ⌜ Answers packedEdited (takeLink n m (lent (now (links .entry)) (now (rules .entry)) (now (entries .entry)) (now (tally .entry))) child parent) r (lent (now (links .exit)) (now (rules .entry)) (now (entries .exit)) (now (tally .exit))) ⌝ }
 {
-    pack_edited(calls::take_link(
-        n,
-        m,
-        links,
-        rules,
-        entries,
-        tally,
-        Kind(child),
-        Kind(parent),
-    ))
+    let c = Kind(child);
+    let p = Kind(parent);
+    pack_edited(calls::take_link(n, m, links, rules, entries, tally, c, p))
 }
 
 // Refresh.

@@ -16,13 +16,17 @@
 -- Assumes nothing.
 use mathlib.Core.Path.{_≡_, refl, sym, ap, ap₂, _∙_}
 use mathlib.Core.Logic.{_⊎_, inl, inr, ⊎-elim, _≢_}
-use mathlib.Core.Bool.{Bool, true, false, _||_, true≢false, or-true, and-eq-true-iff, not-eq-not}
+use mathlib.Core.Bool.{Bool, true, false, _||_, true≢false, and-eq-true-iff, not-eq-not}
 use Prim.Native.Nat.{ℕ, zero, suc, _+_, _≤_, _<_, zero-le}
 use native.Mathlib.Nat.{add-zero, le-refl, le-of-suc-le-suc, not-suc-le-zero, eq-or-lt-of-le}
 use native.Mathlib.Decide.{ℕ-discrete}
 use native.Mathlib.Numerals.{add-one}
 use native.Mathlib.Omega.{arith}
 use Rattle.inheritance.specs.Above.{Chain, link, step, Upto, through, above, Acyclic, one-if, count, rank}
+
+or-right : (a : Bool) {b : Bool} → b ≡ true → (a || b) ≡ true
+or-right true e = refl
+or-right false e = e
 
 pub or-cases : (a b : Bool) → (a || b) ≡ true → (a ≡ true) ⊎ (b ≡ true)
 or-cases true b e = inl refl
@@ -43,7 +47,7 @@ module _ (up : ℕ → ℕ → Bool) where
 
   thru-meet : (k c p : ℕ) → Thru k c k → Thru k k p → Thru (suc k) c p
   unfolding through
-  thru-meet k c p ck kp = rw (ck, kp) (or-true (through up k c p))
+  thru-meet k c p ck kp = or-right (through up k c p) (and-eq-true-iff _ _ .1 (ck, kp))
 
   thru-cases : (k c p : ℕ) → Thru (suc k) c p → Thru k c p ⊎ (Thru k c k × Thru k k p)
   unfolding through

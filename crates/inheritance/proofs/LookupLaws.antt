@@ -1,4 +1,4 @@
--- The laws of the lookup of one mark. First what it says of the kinds left, request U6's theorem:
+-- The laws of the lookup of one mark. First what it says of the kinds left:
 --     lookup-none-iff      the lookup is none exactly if nothing is left
 --     lookup-rule-iff      the lookup is the rule of o exactly if only o is left
 --     lookup-dispute-iff   the lookup is a dispute exactly if two or more are left

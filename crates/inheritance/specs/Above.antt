@@ -1,5 +1,5 @@
 -- The links of a book as a test: `up c p` says that kind p is a direct parent of kind c. Only kinds below n count.
---     Chain     a chain of one or more links leads from c up to p (document 01: p is above c, and c below p)
+--     Chain     a chain of one or more links leads from c up to p (p is above c, and c below p)
 --     Upto      p is c or above it
 --     above     a chain as a test: Warshall's closure, by the largest kind that a chain passes through
 --     Acyclic   no kind is above itself

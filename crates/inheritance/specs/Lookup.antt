@@ -1,9 +1,9 @@
 -- The lookup of one mark, from the links and the own rules alone. `up c p`: kind p is a direct parent of kind c; `own c`: kind c has its own
 -- rule for the mark. Handling numbers play no part.
---     Seen, seen    document 01: rule kind o is seen from c; the same as a test
---     Left, left    request U6: o is seen from c and is above no other that is; the same as a test. Two: two different kinds
---     lookup        request U6's lookup at (c, mark): none, the rule of a kind, or a dispute at a kind
---     Below         document 01: k is c, or is reached from c by going down links with no own rule at any kind after c
+--     Seen, seen    rule kind o is seen from c; the same as a test
+--     Left, left    the kinds left: o is seen from c and is above no other that is; the same as a test. Two: two different kinds
+--     lookup        the lookup at (c, mark): none, the rule of a kind, or a dispute at a kind
+--     Below         k is c, or is reached from c by going down links with no own rule at any kind after c
 -- Assumes nothing.
 use mathlib.Core.Path.{_≡_}
 use mathlib.Core.Bool.{Bool, true, false, _&&_, _||_, not}

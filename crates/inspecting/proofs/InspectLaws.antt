@@ -17,7 +17,7 @@ use lib.ListN.{length}
 use Rattle.inheritance.specs.Above.{above}
 use Rattle.inheritance.proofs.AboveLaws.{above-same}
 use Rattle.relation.specs.Bit.{bit}
-use Rattle.relation.specs.Closed.{Closed}
+use Rattle.closing.specs.Closed.{Closed}
 use Rattle.loading.specs.Loaded.{Loaded}
 use Rattle.soundness.proofs.Soundness.{rows-links}
 use Rattle.tables.specs.Reply.{refused, given}

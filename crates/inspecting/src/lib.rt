@@ -1,7 +1,7 @@
 // Inspect: the first fault of the tables.
+use closing::close;
 use inheritance::Kind;
 use lookups::look_up;
-use relation::close;
 use relation::test;
 use tables::Inspected;
 use tables::Refusal;

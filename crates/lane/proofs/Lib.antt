@@ -1,3 +1,2 @@
 -- The laws that the proof of the line controllers' find rests on.
-pub mod ByteLaws
 pub mod PackedLaws

@@ -1,7 +1,6 @@
 -- `findPacked` by the cases of `asked`, and an entry's packed answer by the tests of the code.
 --     packed-plain             none or a dispute: the entry is the upper half
 --     packed-bad               an entry that is none of the three
---     spelled-shape            where the bytes have their lengths, so have the numbers that they spell
 --     bytes-within             what an answer on the bytes requires
 --     packed-refused           a refusal's number
 --     packed-at                the packed answer at a kind and a mark of the book
@@ -11,7 +10,6 @@ use mathlib.Core.Bool.{Bool, true, false, _&&_, _||_, true≢false}
 use Prim.Native.Nat.{ℕ, _+_, _*_, _≤_}
 use native.Mathlib.Omega.{arith}
 use lib.Dec.{eqb, leb}
-use lib.ListN.{length}
 use borrow.Author.Tests.{eqb-true, eqb-false, leb-true, leb-false, le-leb}
 use Rattle.inheritance.specs.declared.Kind.{Kind}
 use Rattle.inheritance.specs.declared.Mark.{Mark}
@@ -23,10 +21,10 @@ use Rattle.tables.specs.Reply.{refusalNumber}
 use Rattle.tables.specs.Tables.{Tables, shaped}
 use Rattle.tables.specs.Calls.{findingOf}
 use Rattle.tables.specs.Controller.{words16, spelled, shaped-bytes, packed, findPacked}
-use Rattle.tables.proofs.ShapeLaws.{and-iff, sized-facts, facts-sized}
+use Rattle.tables.proofs.ControllerLaws.{spelled-shape}
+use Rattle.tables.proofs.ShapeLaws.{and-iff}
 use Rattle.asking.proofs.AskLaws.{asked-at, admitted, findingAt, find-at, find-refused}
 use Rattle.tables.proofs.FindingLaws.{finding-none, finding-dispute, finding-bad}
-use Rattle.lane.proofs.ByteLaws.{joined-length}
 
 module _ (n e : ℕ) (rule : ℕ → ℕ) where
   pub packed-plain : n ≤ 128 → (eqb e 0 || (leb 257 e && leb e (256 + n))) ≡ true → packed (findingOf n rule e) ≡ 65536 * e
@@ -49,42 +47,29 @@ module _ (n e : ℕ) (rule : ℕ → ℕ) where
           absurd (true≢false (sym (and-iff (leb 1 e) (leb e n) .1 (le-leb 1 e (omega arith), low)) ∙ no-rule))
       go false false some low h = ap packed (finding-bad n rule e (leb-false e n low) h)
 
-module _ (n m : ℕ) (t : Tables) where
-  spelled-shape : shaped-bytes n m t ≡ true → shaped n m (spelled t) ≡ true
-  spelled-shape e =
-      let s = sized-facts 2 4 n m (length (t .links)) (length (t .rules)) (length (t .entries)) (length (t .tally)) e in
-      facts-sized 1 1 n m (length (t .links)) _ _ _ (record {
-        kinds = s .kinds;
-        marks = s .marks;
-        links-length = s .links-length;
-        rules-length = joined-length 256 (t .rules) _ (omega arith);
-        entries-length = joined-length 256 (t .entries) _ (omega arith);
-        tally-length = joined-length 65536 (words16 (t .tally)) _ (joined-length 256 (t .tally) 2 (s .tally-length));
-      })
+module _ (n m : ℕ) (t : Tables) (c i : ℕ) where
+  pub packed-at : {k : Kind} {j : Mark} → asked (askedKind (shaped-bytes n m t) (kindBelow n c)) (markBelow m i) ≡ Asked.At k j
+      → findPacked n m t c i ≡ packed (findingAt n m (spelled t) (k .0) (j .0))
+  unfolding findPacked
+  packed-at {k} {j} e =
+      let is = asked-at (shaped-bytes n m t) n m c i e .is-shaped in
+      let same : asked (askedKind (shaped n m (spelled t)) (kindBelow n c)) (markBelow m i) ≡ Asked.At k j = rw (spelled-shape n m t is) (rw is at e) in
+      rw (is, findPacked) (ap packed (find-at n m (spelled t) c i same))
 
-  module _ (c i : ℕ) where
-    pub packed-at : {k : Kind} {j : Mark} → asked (askedKind (shaped-bytes n m t) (kindBelow n c)) (markBelow m i) ≡ Asked.At k j
-        → findPacked n m t c i ≡ packed (findingAt n m (spelled t) (k .0) (j .0))
-    unfolding findPacked
-    packed-at {k} {j} e =
-        let is = asked-at (shaped-bytes n m t) n m c i e .is-shaped in
-        let same : asked (askedKind (shaped n m (spelled t)) (kindBelow n c)) (markBelow m i) ≡ Asked.At k j = rw (spelled-shape is) (rw is at e) in
-        rw (is, findPacked) (ap packed (find-at n m (spelled t) c i same))
+  pub bytes-within : {k : Kind} {j : Mark} → asked (askedKind (shaped-bytes n m t) (kindBelow n c)) (markBelow m i) ≡ Asked.At k j
+      → Within n m (words16 (t .rules)) (words16 (t .entries)) k j
+  bytes-within {k} {j} e =
+      let is = asked-at (shaped-bytes n m t) n m c i e .is-shaped in
+      admitted n m (spelled t) c i {k = k} {j = j} (rw (spelled-shape n m t is) (rw is at e)) .1
 
-    pub bytes-within : {k : Kind} {j : Mark} → asked (askedKind (shaped-bytes n m t) (kindBelow n c)) (markBelow m i) ≡ Asked.At k j
-        → Within n m (words16 (t .rules)) (words16 (t .entries)) k j
-    bytes-within {k} {j} e =
-        let is = asked-at (shaped-bytes n m t) n m c i e .is-shaped in
-        admitted n m (spelled t) c i {k = k} {j = j} (rw (spelled-shape is) (rw is at e)) .1
-
-    pub packed-refused : {why : Refusal} → asked (askedKind (shaped-bytes n m t) (kindBelow n c)) (markBelow m i) ≡ Asked.Refused why
-        → findPacked n m t c i ≡ refusalNumber why
-    unfolding findPacked
-    packed-refused {why} e = go (shaped-bytes n m t) refl e
-      where
-        go : (b : Bool) → shaped-bytes n m t ≡ b → asked (askedKind b (kindBelow n c)) (markBelow m i) ≡ Asked.Refused why
-            → findPacked n m t c i ≡ refusalNumber why
-        go false is e = let w : Refusal.Shape ≡ why = cc in rw (is, findPacked, ← w) refl
-        go true is e =
-            let same : asked (askedKind (shaped n m (spelled t)) (kindBelow n c)) (markBelow m i) ≡ Asked.Refused why = rw (spelled-shape is) e in
-            rw (is, findPacked) (ap packed (find-refused n m (spelled t) c i same))
+  pub packed-refused : {why : Refusal} → asked (askedKind (shaped-bytes n m t) (kindBelow n c)) (markBelow m i) ≡ Asked.Refused why
+      → findPacked n m t c i ≡ refusalNumber why
+  unfolding findPacked
+  packed-refused {why} e = go (shaped-bytes n m t) refl e
+    where
+      go : (b : Bool) → shaped-bytes n m t ≡ b → asked (askedKind b (kindBelow n c)) (markBelow m i) ≡ Asked.Refused why
+          → findPacked n m t c i ≡ refusalNumber why
+      go false is e = let w : Refusal.Shape ≡ why = cc in rw (is, findPacked, ← w) refl
+      go true is e =
+          let same : asked (askedKind (shaped n m (spelled t)) (kindBelow n c)) (markBelow m i) ≡ Asked.Refused why = rw (spelled-shape n m t is) e in
+          rw (is, findPacked) (ap packed (find-refused n m (spelled t) c i same))

@@ -21,7 +21,7 @@ fn word(bytes: &[u8], i: usize) -> u16
 }
 
 // The packed answer at a kind and a mark of the book. The entry is not decoded, since a packed answer has it as its upper half;
-// its tests are those of document 01. None and a dispute are packed alike, so that which of the two it is costs no guess.
+// its tests are those of find. None and a dispute are packed alike, so that which of the two it is costs no guess.
 fn answer(n: u16, m: u16, rules: &[u8], entries: &[u8], k: Kind, j: Mark) -> u32
     requires { ⌜ Within n m (words16 (now rules)) (words16 (now entries)) k j ⌝ }
     ensures { λ r. ⌜ r ≡ packed (findingOf n (λ o. getD (words16 (now (rules .entry))) (o * m + j .0) 0) (getD (words16 (now (entries .entry))) (k .0 * m + j .0) 0)) ⌝ }

@@ -3,10 +3,10 @@
 --     or-into, without-into           the word i of the list, with v's bits added; without v's bits
 --     bit-or-into, bit-without-into   what a bit is after it
 --     marked, unmarked                one bit is added, or taken out: kind p, in row c
---     bit-join                        .. after a row is added, word by word: row k to row c
+--     two-words                       a word of a row, after the words of a row are added to those of another
 --     and-one                         a word's lowest bit, as code reads it
 -- Assumes nothing.
-use mathlib.Core.Path.{_≡_, refl, sym, ap, ap₂, _∙_}
+use mathlib.Core.Path.{_≡_, refl, sym, ap, _∙_}
 use mathlib.Core.Logic.{_≢_}
 use mathlib.Core.Bool.{Bool, true, false, _&&_, _||_, not, xor, or-false, and-true}
 use mathlib.Core.List.{List}
@@ -194,16 +194,3 @@ two-words t rows c k d (suc zero) r h =
     let same : eqb (2 * d + 1) (2 * c + 1) ≡ eqb d c = same-test (2 * d + 1) (2 * c + 1) d c (λ e. omega arith) (λ e. omega arith) in
     rw (off, same, or-false) refl
 two-words t rows c k d (suc (suc j)) r h = absurd (omega arith)
-
-pub bit-join : (rows : List ℕ) (c k d q : ℕ) → length rows ≡ 256 → c < 128 → q < 128
-    → let first = or-into rows (2 * c) (getD rows (2 * k) 0) in
-    bit (or-into first (2 * c + 1) (getD first (2 * k + 1) 0)) d q ≡ (bit rows d q || (eqb d c && bit rows k q))
-unfolding bit
-bit-join rows c k d q l hc hq =
-    let first = or-into rows (2 * c) (getD rows (2 * k) 0) in
-    let kept : getD first (2 * k + 1) 0 ≡ getD rows (2 * k + 1) 0 = getD-set-other rows (2 * c) (2 * k + 1) _ 0 (λ e. omega arith) in
-    bit-or-into first (2 * c + 1) (getD first (2 * k + 1) 0) d q (simp length-set (omega arith))
-    ∙ ap₂ (λ (t : Bool) (w : ℕ). t || (eqb (2 * d + q / 64) (2 * c + 1) && on w (q % 64)))
-    (bit-or-into rows (2 * c) (getD rows (2 * k) 0) d q (omega arith))
-    kept
-    ∙ two-words (bit rows d q) rows c k d (q / 64) (q % 64) (omega arith)

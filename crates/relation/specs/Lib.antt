@@ -1,4 +1,2 @@
 pub mod Bit
-pub mod Closed
 pub mod First
-pub mod Turned

@@ -9,8 +9,8 @@ use Prim.Native.Nat.{ℕ, _<_, _≤_}
 use Rattle.inheritance.proofs.TouchLaws.{below-carries}
 use Rattle.propagation.specs.Spread.{under, stop, Touched}
 use Rattle.relation.specs.Bit.{bit}
-use Rattle.relation.specs.Turned.{Turned}
-use Rattle.relation.proofs.Turning.{turned-within}
+use Rattle.closing.specs.Turned.{Turned}
+use Rattle.closing.proofs.Turning.{turned-within}
 use Rattle.settling.specs.Settled.{Awaiting}
 use Rattle.resettling.specs.Edits.{Untouched}
 

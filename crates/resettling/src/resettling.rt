@@ -1,9 +1,9 @@
 // The entries after a change: the kinds that it can touch are found by the walk down the links, and settled.
 use crate::stops::own_rules;
+use closing::turn;
 use inheritance::Kind;
 use inheritance::Mark;
 use propagation::touched;
-use relation::turn;
 use settling::settle;
 ghost use mathlib.Core.Bool.{false};
 ghost use Prim.Native.Nat.{_+_, _<_};

@@ -1,39 +1,32 @@
 -- An edit of a rule, step by step.
---     rule-refused, rule-handling, rule-passed refusals 1 to 3, refusal 4 of an add, and what comes after them
---     added-rule, taken-rule                   the two calls are the two cases of `ruleCall`
---     rule-unsound, rule-absent                refusals 5 and 6
---     rule-within, rule-sized                  the place of the rule, and the tables once it is stored
---     rule-prepared                            what is prepared, once the kind is put among the rule kinds or taken out
---     rule-applied                             what is settled and counted then
---     rule-untouched                           what is known of the entries of sound tables once the rule is stored
---     rule-done                                what an accepted edit leaves and answers
+--     rule-refused, rule-handling, rule-passed    refusals 1 to 3, refusal 4 of an add, and what comes after them
+--     added-rule, taken-rule                      the two calls are the two cases of `ruleCall`
+--     rule-unsound, rule-absent                   refusals 5 and 6
+--     rule-untouched                              what is known of the entries of sound tables once the rule is stored
+--     rule-done                                   what an accepted edit leaves and answers
 -- Assumes nothing.
 use mathlib.Core.Path.{_≡_, refl, sym, _∙_, ap}
 use mathlib.Core.Bool.{Bool, true, false, _&&_, not}
 use mathlib.Core.List.{List}
 use Prim.Native.Nat.{ℕ, _+_, _*_, _<_}
-use lib.Arith.{digits-lt}
 use lib.Dec.{eqb, ltb}
-use lib.ListN.{length, getD, set, length-set}
+use lib.ListN.{getD}
 use Rattle.inheritance.specs.declared.Kind.{Kind}
 use Rattle.inheritance.specs.declared.Mark.{Mark}
 use Rattle.relation.specs.Bit.{bit}
-use Rattle.relation.specs.First.{First}
-use Rattle.deciding.specs.Deciding.{Prepared}
-use Rattle.settling.specs.Settled.{Settled}
 use Rattle.settling.proofs.Editing.{rule-awaiting, rule-settled}
-use Rattle.deciding.proofs.Preparing.{kind-place, prepared-set}
 use Rattle.asking.specs.declared.Asked.{Asked}
 use Rattle.tables.specs.declared.Refusal.{Refusal}
 use Rattle.tables.specs.Calls.{Outcome, leaves, check, addRule, takeRule}
 use Rattle.tables.specs.Reply.{refused, given, refusalNumber}
-use Rattle.tables.specs.Tables.{Tables, lent, shaped, Sized, sound, tallied}
+use Rattle.tables.specs.Tables.{Tables, lent, shaped, sound}
 use Rattle.asking.proofs.AskLaws.{asked-at, checks-pass, checks-refuse}
 use Rattle.asking.specs.Ask.{checked}
-use Rattle.resettling.specs.Edits.{Untouched, changed, Reset}
+use Rattle.resettling.specs.Edits.{Untouched}
 use Rattle.resettling.specs.Known.{Known}
 use Rattle.resettling.proofs.KnownLaws.{has, acyclic, looked, given-accepted}
-use Rattle.rule_edits.specs.RuleEdit.{stored, RuleUntouched, Applied, ruleEdit, ruleCall}
+use Rattle.reruling.specs.Reruled.{stored, RuleUntouched, Applied}
+use Rattle.rule_edits.specs.RuleEdit.{ruleEdit, ruleCall}
 
 -- ---- refusals 1 to 4
 
@@ -66,32 +59,6 @@ module _ (n m : ℕ) (t : Tables) (c i : ℕ) where
   pub taken-rule : ruleCall n m t c i 0 false ≡ takeRule n m t c i
   unfolding ruleCall ruleEdit takeRule check
   taken-rule = refl
-
--- ---- the rule stored, at place i
-
-module _ (n m : ℕ) {rules entries : List ℕ} (s : Sized n m rules entries) (kind mark handling : ℕ) (kind-in : kind < n) (mark-in : mark < m) (i : ℕ) (at : i ≡ kind * m + mark) where
-  pub rule-within : i < length rules
-  rule-within = rw (at, s .rules-size) (digits-lt kind-in mark-in)
-
-  pub rule-sized : Sized n m (set rules i handling) entries
-  rule-sized = record {
-    kinds = s .kinds;
-    marks = s .marks;
-    rules-size = length-set rules i handling ∙ s .rules-size;
-    entries-size = s .entries-size;
-  }
-
-  pub rule-prepared : {rows order reach ruled new : List ℕ} {place : ℕ} → Prepared n m rows rules order reach ruled → First (bit reach kind) 0 128 place
-      → Reset mark place (not (eqb handling 0)) ruled new → Prepared n m rows (set rules i handling) order reach new
-  rule-prepared {rows} {order} {reach} {ruled} {new} {place} p first r =
-      let (within, is) = kind-place n rows order reach (p .arranged) (s .kinds) kind kind-in first in
-      rw at
-      (prepared-set m rules kind mark handling mark-in n (s .rules-size) rows order reach ruled new place within is p
-      (λ before here. changed (not (eqb handling 0)) here before) (λ b. refl) (λ b. refl) (r .long) (r .bits))
-
-  pub rule-applied : {up : ℕ → ℕ → Bool} {new before tally : List ℕ} {count : ℕ} → Settled n m mark (mark + 1) up (set rules i handling) entries new count
-      → tally ≡ tallied 0 before → Applied n m kind mark up (stored m rules kind mark handling) (set rules i handling) entries new before tally count
-  rule-applied settled counted = record { rule = rw at refl; settled = rw at at settled; counted = counted }
 
 -- ---- from refusal 5 on
 

@@ -1,4 +1,4 @@
--- Document 01's session with request U6's answers: its thirteen cases to be proved, as one table and one theorem, from input bytes to output bytes.
+-- The worked session: thirteen cases, as one table and one theorem, from input bytes to output bytes.
 --     cases-hold    the program prints, line by line, what the table says
 -- Assumes nothing.
 use mathlib.Core.Path.{_≡_, refl}

@@ -1,4 +1,5 @@
 pub mod Cases
+pub mod NeverLaws
 pub mod PartLaws
 pub mod SessionLaws
 pub mod TurnLaws

@@ -6,22 +6,13 @@
 -- Assumes nothing.
 use mathlib.Core.Path.{_≡_, refl, sym, ap, _∙_}
 use mathlib.Core.List.{List, [], _∷_, _++_}
-use mathlib.Core.Logic.{⊎-elim}
 use Prim.Native.Nat.{ℕ, zero, suc, _*_, min}
-use native.Mathlib.Nat.{eq-or-lt-of-le}
 use native.Mathlib.Omega.{arith}
 use lib.ListN.{length, take, drop, length-append, length-drop}
-use lib.Seq.{take-all, take-at, length-take-le}
+use lib.Seq.{take-at, length-take-le}
 use Rattle.tables.specs.Tables.{Tables, lent}
+use Rattle.buffers.proofs.BufferLaws.{take-leading}
 use Rattle.session.specs.Parts.{Room, parts, front, putIn}
-
--- a table that has fewer places than asked is lent whole
-take-leading : (xs : List ℕ) (asked : ℕ) {k whole : ℕ} → k ≡ min asked whole → length xs ≡ whole → take k xs ≡ take asked xs
-take-leading xs asked {k} {whole} is long =
-    ⊎-elim
-    (λ all. take-all k xs (omega arith) ∙ sym (take-all asked xs (omega arith)))
-    (λ less. let same : k ≡ asked = omega arith in rw same)
-    (eq-or-lt-of-le {n = k} {m = whole} (omega arith))
 
 -- a part that was not written
 kept : (k : ℕ) (whole : List ℕ) → whole ≡ front (take k whole) whole

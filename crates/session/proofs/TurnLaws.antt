@@ -22,9 +22,10 @@ use Rattle.tables.specs.Books.{Request, Call, Answer, opening, Result, gives, t
 use Rattle.tables.proofs.ShapeLaws.{sized-facts, facts-sized, zeros-lengths}
 use Rattle.answers.specs.Answers.{printedRefused, printedAnswer}
 use Rattle.forms.specs.Forms.{formOf}
+use Rattle.requests.specs.Requests.{callFor, fresh, OfBook, OfBookBy}
 use Rattle.session.specs.declared.Turned.{Turned}
-use Rattle.session.specs.Line.{callFor, fresh, carriesBy, carries, carriesOr, turnOf, lineOf}
-use Rattle.session.specs.Parts.{Room, parts, bookIn, putIn, OfBook, OfBookBy, ofSize, sizeAfter, Answered}
+use Rattle.session.specs.Line.{carriesBy, carries, carriesOr, turnOf, lineOf}
+use Rattle.session.specs.Parts.{Room, parts, bookIn, putIn, ofSize, sizeAfter, Answered}
 use Rattle.session.proofs.PartLaws.{whole-kept, Lending, taken, Kept, parts-lent, all-back, stands}
 
 -- ---- Open: the parts lent have the lengths that it asks for exactly where n and m are in their ranges

@@ -1,6 +1,5 @@
 -- One line of the text program, from bytes to bytes, through the definitions of the forms, the calls and the answers.
 --     Book       the program's book: its size and the tables that it lends; before an accepted open, n and m are 0
---     callFor    the call that a form asks for
 --     carries    what a call does: the book after it, and the line that is printed
 --     turnOf     what a form does
 --     lineOf     the same of a line of bytes, which comes without its line feed
@@ -12,9 +11,10 @@ use Rattle.tables.specs.Reply.{Reply, refused, given}
 use Rattle.tables.specs.Tables.{Tables}
 use Rattle.tables.specs.Calls as calls
 use Rattle.tables.specs.Calls.{Outcome, zeros}
-use Rattle.tables.specs.Books.{Edit, Request, Call, Result, outcome}
+use Rattle.tables.specs.Books.{Call, Result, outcome}
 use Rattle.answers.specs.Answers.{printedRefused, printedOpened, printedAnswer}
-use Rattle.forms.specs.Forms.{Form, openBook, addRule, takeRule, addLink, takeLink, find, bad, formOf}
+use Rattle.forms.specs.Forms.{Form, formOf}
+use Rattle.requests.specs.Requests.{callFor, fresh}
 
 pub record Book : Type 0 where
   pub n : ℕ
@@ -24,28 +24,6 @@ pub record Book : Type 0 where
 pub record Turn : Type 0 where
   pub book : Book
   pub printed : List ℕ
-
-abbrev pub asks : (n m : ℕ) → Request → Call
-asks n m request = record { n = n; m = m; request = request }
-
--- the call that a form asks for on a book of n kinds and m marks: open names its own size, every other form has the book's
-abbrev pub callFor : (n m : ℕ) → Form → Reply Call
-callFor n m (openBook k j) = given (asks k j Request.openBook)
-callFor n m (addRule kind mark handling) = given (asks n m (Request.edit (Edit.addRule kind mark handling)))
-callFor n m (takeRule kind mark) = given (asks n m (Request.edit (Edit.takeRule kind mark)))
-callFor n m (addLink child parent) = given (asks n m (Request.edit (Edit.addLink child parent)))
-callFor n m (takeLink child parent) = given (asks n m (Request.edit (Edit.takeLink child parent)))
-callFor n m (find kind mark) = given (asks n m (Request.find kind mark))
-callFor n m bad = refused 12
-
--- a request for a new book
-abbrev pub fresh : Request → Bool
-fresh Request.openBook = true
-fresh (Request.edit e) = false
-fresh (Request.find kind mark) = false
-fresh (Request.parties kind mark) = false
-fresh Request.inspect = false
-fresh Request.refresh = false
 
 -- the book after open: an accepted one starts a new book, a refused one keeps the old
 abbrev pub openedBook : Book → (n m : ℕ) → Reply (Unit {0}) → Tables → Book

@@ -2,23 +2,19 @@
 --     Room        the tables have these places
 --     parts       their leading parts for a book of n kinds and m marks; bookIn: the book that stands in them
 --     putIn       a book's tables put at the front of theirs; what lies behind stays
---     OfBook      a call has the size of the book, unless it asks for a new one
 --     sizeAfter   the size of the book after an answer
---     wanted      the call that the code makes of a form
 --     Answered    what a line leaves in the program, by the turn that it is. Line after line, `book` is what the next line's turn is done to
 -- Assumes nothing.
 use mathlib.Core.Path.{_≡_}
-use mathlib.Core.Bool.{Bool, true, false}
 use mathlib.Core.List.{List, _++_}
 use Prim.Native.Nat.{ℕ, _*_}
 use lib.ListN.{length, take, drop}
 use Rattle.patterns.specs.Pattern.{Printed}
-use Rattle.tables.specs.Books.{Call, Answer, opening, editing, finding, pairing, inspecting, callOf}
+use Rattle.tables.specs.Books.{Call, Answer, opening, editing, finding, pairing, inspecting}
 use Rattle.tables.specs.Reply.{Reply, refused, given}
 use Rattle.tables.specs.Tables.{Tables, lent, LengthsOf}
 use Rattle.session.specs.declared.Turned.{Turned}
-use Rattle.session.specs.declared.Wanted.{Wanted}
-use Rattle.session.specs.Line.{Book, Turn, fresh}
+use Rattle.session.specs.Line.{Book, Turn}
 
 abbrev pub Room : Tables → Type 0
 Room t = LengthsOf 128 64 t
@@ -37,13 +33,6 @@ abbrev pub putIn : (part whole : Tables) → Tables
 putIn part whole =
     lent (front (part .links) (whole .links)) (front (part .rules) (whole .rules)) (front (part .entries) (whole .entries)) (part .tally)
 
-abbrev pub OfBookBy : Bool → (n m : ℕ) → Call → Type 0
-OfBookBy true n m call = Unit
-OfBookBy false n m call = (call .n ≡ n) × (call .m ≡ m)
-
-abbrev pub OfBook : (n m : ℕ) → Call → Type 0
-OfBook n m call = OfBookBy (fresh (call .request)) n m call
-
 abbrev pub ofSize : (n m length : ℕ) → Turned
 ofSize n m length = record { n = n; m = m; length = length }
 
@@ -58,14 +47,6 @@ sizeAfter n m call (editing reply) length = ofSize n m length
 sizeAfter n m call (finding reply) length = ofSize n m length
 sizeAfter n m call (pairing reply) length = ofSize n m length
 sizeAfter n m call (inspecting reply) length = ofSize n m length
-
-abbrev pub wanted : Wanted → Reply Call
-wanted (Wanted.Call call) = given (callOf call)
-wanted Wanted.Bad = refused 12
-
-abbrev pub OfBookIf : (n m : ℕ) → Reply Call → Type 0
-OfBookIf n m (given call) = OfBook n m call
-OfBookIf n m (refused number) = Unit
 
 -- `turn` was done to the book: the book after it stands in the leading parts of the tables, what lies behind stays, and its answer stands at the
 -- front of `out`

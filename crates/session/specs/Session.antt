@@ -1,5 +1,6 @@
 -- A session of the text program: lines in, lines out.
 --     start       the book before the first line
+--     bookAfter   the book after some lines
 --     answers     the lines that are printed for the lines of a session
 --     linesOf     the lines of an input: a line ends in a line feed, or at the end of the input if it has a byte
 --     session     all that the program writes for an input: after each line's answer a line feed
@@ -9,11 +10,15 @@ use mathlib.Core.List.{List, [], _∷_, _++_}
 use Prim.Native.Nat.{ℕ}
 use lib.Dec.{eqb}
 use lib.ListN.{replicate}
+use Rattle.tables.specs.Books.{run}
 use Rattle.tables.specs.Tables.{lent, tallies}
 use Rattle.session.specs.Line.{Book, lineOf}
 
 abbrev pub start : Book
 start = record { n = 0; m = 0; tables = lent [] [] [] (replicate tallies 0) }
+
+abbrev pub bookAfter : Book → List (List ℕ) → Book
+bookAfter b lines = run (λ line book. lineOf book line .book) lines b
 
 unfoldable pub answers : Book → List (List ℕ) → List (List ℕ)
 answers b [] = []

@@ -1,18 +1,19 @@
 // One line of the text program: its form is made a call, the call is carried out on the leading parts of the program's tables, and the answer is printed.
-use forms::Form;
+use buffers::least;
+use requests::Wanted;
+use requests::call_for;
 use tables::Answer;
 use tables::Call;
-use tables::Edit;
 use tables::Opened;
 use tables::Refusal;
-use tables::Request;
+use tables::TALLIES;
 ghost use mathlib.Core.Path.{_≡_};
 ghost use Prim.Native.Nat.{_*_, min};
 ghost use Rattle.tables.specs.Books.{callOf, answered};
 ghost use Rattle.tables.specs.Tables.{lent};
-ghost use Rattle.forms.specs.Forms.{formed};
-ghost use Rattle.session.specs.Line.{callFor, carries, lineOf};
-ghost use Rattle.session.specs.Parts.{Room, OfBook, OfBookIf, wanted, sizeAfter, Answered};
+ghost use Rattle.requests.specs.Requests.{OfBook};
+ghost use Rattle.session.specs.Line.{carries, lineOf};
+ghost use Rattle.session.specs.Parts.{Room, sizeAfter, Answered};
 
 // The size of the book after a line, and how many bytes its answer has.
 pub struct Turned {
@@ -21,41 +22,11 @@ pub struct Turned {
     pub length: usize,
 }
 
-// The call that a form asks for, or that a line has no form.
-enum Wanted {
-    Call(Call),
-    Bad,
-}
-
-// The call that a form asks for on a book of n kinds and m marks.
-fn call_for(form: Form, n: u16, m: u16) -> Wanted
-    ensures { λ r. ⌜ (wanted r ≡ callFor n m (formed form)) × OfBookIf n m (wanted r) ⌝ }
-{
-    let request = match form {
-        Form::Open(k, j) => {
-            let open = Call {
-                n: k,
-                m: j,
-                request: Request::Open,
-            };
-            return Wanted::Call(open);
-        }
-        Form::AddRule(k, j, h) => Request::Edit(Edit::AddRule(k, j, h)),
-        Form::TakeRule(k, j) => Request::Edit(Edit::TakeRule(k, j)),
-        Form::AddLink(c, p) => Request::Edit(Edit::AddLink(c, p)),
-        Form::TakeLink(c, p) => Request::Edit(Edit::TakeLink(c, p)),
-        Form::Find(k, j) => Request::Find(k, j),
-        Form::Bad => return Wanted::Bad,
-    };
-    Wanted::Call(Call { n, m, request })
-}
-
 // How many places of a table are lent, where a book has a × b of them.
 fn leading(a: u16, b: u16, whole: usize) -> usize
     ensures { λ r. ⌜ r ≡ min (a * b) whole ⌝ }
 {
-    let asked = (a as usize) * (b as usize);
-    if asked < whole { asked } else { whole }
+    least((a as usize) * (b as usize), whole)
 }
 
 // The size of the book after a call, by its answer: an accepted open has the size that it names taken over.
@@ -116,13 +87,12 @@ pub fn line(
     input: &[u8],
     n: u16,
     m: u16,
-    links: &mut [u8],
-    rules: &mut [u16],
-    entries: &mut [u16],
-    tally: &mut [u32],
+    links: &mut [u8; 16384],
+    rules: &mut [u16; 8192],
+    entries: &mut [u16; 8192],
+    tally: &mut [u32; TALLIES],
     out: &mut [u8; 64],
 ) -> Turned
-    requires { ⌜ Room (lent (now links) (now rules) (now entries) (now tally)) ⌝ }
     ensures { λ r. ⌜ Answered (λ b. lineOf b (now (input .entry))) n m
         (lent (now (links .entry)) (now (rules .entry)) (now (entries .entry)) (now (tally .entry)))
         (lent (now (links .exit)) (now (rules .exit)) (now (entries .exit)) (now (tally .exit)))

@@ -1,10 +1,12 @@
--- Demand 3, between books: after any two lists of calls, each on a book of its own that was just opened with the same n and m, where every place of
--- links and of rules holds the same number in both books, every place of entries does too.
---     run-keeps      what every step keeps, a list of steps keeps
---     books-agree    the promise; it rests on one invariant over a list of calls: every entry is its lookup
+-- What holds of a book after any list of calls since it was just opened.
+--     stays-shaped, stays-sound    its tables have their lengths and are sound
+--     books-agree                  demand 3, between two books of the same n and m: where every place of links and of rules holds the same number in both
+--                                  books, every place of entries does too
+--     Consistent                   the invariant that they rest on; opened-consistent, call-consistent: an accepted open gives it, every call keeps it
+--     run-keeps                    what every step keeps, a list of steps keeps
 -- Assumes nothing.
 use mathlib.Core.Path.{_≡_, refl, sym, ap, ap₂, _∙_, subst}
-use mathlib.Core.Bool.{Bool, true, false, not}
+use mathlib.Core.Bool.{Bool, true, _&&_, not, false≢true, and-eq-true-iff}
 use mathlib.Core.List.{List, [], _∷_, _++_}
 use mathlib.Core.Logic.{by-cases}
 use Prim.Native.Nat.{ℕ, zero, suc, _+_, _*_, _<_, _≤_}
@@ -12,22 +14,29 @@ use native.Mathlib.Omega.{arith}
 use native.Mathlib.Nat.{lt-of-le-of-lt, mul-le-mul-left, mul-lt-mul-of-pos-right, le-of-lt, lt-irrefl, eq-of-mul-eq-mul-left, zero-mul, suc-mul}
 use native.Mathlib.Numerals.{add-one}
 use native.Mathlib.Decide.{decLt}
-use lib.Dec.{eqb}
-use lib.ListN.{length, getD, replicate, length-set, replicate-append-replicate}
+use borrow.Author.Tests.{ltb-true, not-true}
+use lib.Dec.{eqb, ltb}
+use lib.ListN.{length, getD, replicate, set, length-set, replicate-append-replicate}
 use lib.Seq.{ext-getD}
+use Rattle.inheritance.specs.Above.{Chain, link, step, Acyclic}
+use Rattle.inheritance.proofs.AboveLaws.{chainless-acyclic}
 use Rattle.inheritance.proofs.LookupLaws.{lookup-bare}
 use Rattle.tables.specs.Entry.{entryOf}
 use Rattle.tables.specs.Reply.{refused, given}
-use Rattle.tables.specs.Tables.{Tables, shaped, LengthsOf, upOf, ownOf, entryAt, listed, grid, entriesOf}
+use Rattle.tables.specs.Tables.{Tables, lent, shaped, LengthsOf, upOf, ownOf, entryAt, listed, grid, entriesOf, bytes-right, sound}
 use Rattle.tables.specs.Calls as calls
 use Rattle.tables.specs.Calls.{zeros}
 use Rattle.tables.specs.Books.{Edit, Request, Call, editOutcome, answerTo, after, run, Agree}
 use Rattle.tables.specs.Books.Edit.{addRule, takeRule, addLink, takeLink}
 use Rattle.tables.specs.Books.Request.{openBook, edit, find, parties, inspect, refresh}
 use Rattle.tables.proofs.CallLaws.{check-given, check-holds, find-keeps, inspect-keeps}
-use Rattle.tables.proofs.ShapeLaws.{sized-facts, zeros-lengths}
-use Rattle.tables.proofs.SoundLaws.{length-entriesOf}
+use Rattle.tables.proofs.EditLaws.{passed, changed-bytes, added-acyclic, taken-acyclic}
+use Rattle.tables.proofs.ShapeLaws.{sized-facts, facts-sized, shape-sized, zeros-lengths}
+use Rattle.tables.proofs.SoundLaws.{Sound, means-sound, bytes-mean, free-means, length-entriesOf}
 use Rattle.tables.proofs.TableLaws.{length-tallied}
+
+both-below : {n c p : ℕ} → (ltb c n && ltb p n) ≡ true → (c < n) × (p < n)
+both-below {n} {c} {p} e = let (hc, hp) = and-eq-true-iff (ltb c n) _ .0 e in (ltb-true _ _ hc, ltb-true _ _ hp)
 
 -- ---- only one n and one m fit a book's tables
 
@@ -44,11 +53,18 @@ one-size n m n′ m′ t s s′ =
     let places : n′ * m′ ≡ n * m = omega (arith, s .rules-length, s′ .rules-length) in
     (n-same, eq-of-mul-eq-mul-left n (s .kinds .0) m′ m (ap (λ (x : ℕ). x * m′) (sym n-same) ∙ places))
 
--- ---- a book whose every entry is its lookup
+-- ---- a book whose tables have their lengths and are sound
 
-record Consistent (n m : ℕ) (t : Tables) : Type 0 where
-  lengths : LengthsOf n m t
-  right : t .entries ≡ entriesOf n m (upOf n (t .links)) (t .rules)
+pub record Consistent (n m : ℕ) (t : Tables) : Type 0 where
+  pub lengths : LengthsOf n m t
+  pub right : Sound n m t
+
+module _ {n m : ℕ} {t : Tables} (s : Consistent n m t) where
+  pub consistent-shaped : shaped n m t ≡ true
+  consistent-shaped = facts-sized 1 1 n m _ _ _ _ (s .lengths)
+
+  pub consistent-sound : sound n m t ≡ true
+  consistent-sound = means-sound n m t (shape-sized n m t (s .lengths) .entries-size) (s .right)
 
 -- ---- an empty book is such a one
 
@@ -74,57 +90,89 @@ unfolding entriesOf entryAt
 none-yet n m up = grid-zeros _ m n λ c j.
     ap entryOf (lookup-bare n up (ownOf m (replicate (n * m) 0) j) (λ k. ap (λ (x : ℕ). not (eqb x 0)) (zeros-at (n * m) (k * m + j))) c)
 
+zeros-low : (k i : ℕ) → getD (replicate k 0) i 0 ≤ 1
+zeros-low k i = rw (zeros-at k i) (omega arith)
+
+no-chain-yet : (n : ℕ) {c p : ℕ} → Chain n (upOf n (replicate (n * n) 0)) c p → ⊥
+no-chain-yet n (link {c} {p} l u) = false≢true (sym (ap (λ (x : ℕ). eqb x 1) (zeros-at (n * n) (c * n + p))) ∙ u)
+no-chain-yet n (step {c} {q} l u r) = false≢true (sym (ap (λ (x : ℕ). eqb x 1) (zeros-at (n * n) (c * n + q))) ∙ u)
+
 zeros-consistent : (n m : ℕ) (t : Tables) → LengthsOf n m t → Consistent n m (zeros n m)
-zeros-consistent n m t s = record { lengths = zeros-lengths n m t s; right = sym (none-yet n m (upOf n (replicate (n * n) 0))) }
+zeros-consistent n m t s = record {
+  lengths = zeros-lengths n m t s;
+  right = record {
+    bytes = λ i h. zeros-low (n * n) i;
+    acyclic = chainless-acyclic n (upOf n (replicate (n * n) 0)) (λ c l. no-chain-yet n);
+    entries = sym (none-yet n m (upOf n (replicate (n * n) 0)));
+  };
+}
 
 -- ---- every call keeps it
 
 module _ (n m : ℕ) (t : Tables) (s : Consistent n m t) where
   -- a call whose n′ and m′ fit is put to the book itself
-  same-size : (n′ m′ : ℕ) → shaped n′ m′ t ≡ true → (n′ ≡ n) × (m′ ≡ m)
+  pub same-size : (n′ m′ : ℕ) → shaped n′ m′ t ≡ true → (n′ ≡ n) × (m′ ≡ m)
   same-size n′ m′ fits = one-size n m n′ m′ t (s .lengths) (sized-facts 1 1 n′ m′ _ _ _ _ fits)
 
   -- entries that such a call works out anew
   worked-anew : (n′ m′ : ℕ) (links rules tally : List ℕ) → shaped n′ m′ t ≡ true
       → length links ≡ length (t .links) → length rules ≡ length (t .rules) → length tally ≡ length (t .tally)
-      → Consistent n m (record { links = links; rules = rules; entries = entriesOf n′ m′ (upOf n′ links) rules; tally = tally })
-  worked-anew n′ m′ links rules tally fits same-links same-rules same-tally =
+      → ((i : ℕ) → i < n′ * n′ → getD links i 0 ≤ 1) → Acyclic n′ (upOf n′ links)
+      → Consistent n m (lent links rules (entriesOf n′ m′ (upOf n′ links) rules) tally)
+  worked-anew n′ m′ links rules tally fits same-links same-rules same-tally bytes acyclic =
       let (n-same, m-same) = same-size n′ m′ fits in
-      let right : entriesOf n′ m′ (upOf n′ links) rules ≡ entriesOf n m (upOf n links) rules = ap₂ (λ (a b : ℕ). entriesOf a b (upOf a links) rules) n-same m-same in
-      record {
+      let size = sized-facts 1 1 n′ m′ _ _ _ _ fits in
+      let left = lent links rules (entriesOf n′ m′ (upOf n′ links) rules) tally in
+      subst (λ (a : ℕ). Consistent a m left) n-same (subst (λ (b : ℕ). Consistent n′ b left) m-same (record {
         lengths = record {
-          kinds = s .lengths .kinds;
-          marks = s .lengths .marks;
-          links-length = same-links ∙ s .lengths .links-length;
-          rules-length = same-rules ∙ s .lengths .rules-length;
-          entries-length = omega (arith, ap length right, length-entriesOf n m (upOf n links) rules);
-          tally-length = same-tally ∙ s .lengths .tally-length;
+          kinds = size .kinds;
+          marks = size .marks;
+          links-length = same-links ∙ size .links-length;
+          rules-length = same-rules ∙ size .rules-length;
+          entries-length = omega (arith, length-entriesOf n′ m′ (upOf n′ links) rules);
+          tally-length = same-tally ∙ size .tally-length;
         };
-        right = right;
-      }
+        right = record { bytes = bytes; acyclic = acyclic; entries = refl };
+      }))
 
   abbrev Stays : Tables → Type 0
   Stays = Consistent n m
 
   accepted-consistent : (n′ m′ : ℕ) (links rules : List ℕ) → shaped n′ m′ t ≡ true → length links ≡ length (t .links) → length rules ≡ length (t .rules)
-      → Stays (calls.accepted n′ m′ t links rules .tables)
+      → ((i : ℕ) → i < n′ * n′ → getD links i 0 ≤ 1) → Acyclic n′ (upOf n′ links) → Stays (calls.accepted n′ m′ t links rules .tables)
   unfolding calls.accepted
   accepted-consistent n′ m′ links rules fits same-links same-rules = worked-anew n′ m′ links rules _ fits same-links same-rules (length-tallied 0 (t .tally))
+
+  -- an edit of a rule keeps the links, whose bytes and chains were tested
+  rule-consistent : (n′ m′ place handling : ℕ) → shaped n′ m′ t ≡ true → sound n′ m′ t ≡ true
+      → Stays (calls.accepted n′ m′ t (t .links) (set (t .rules) place handling) .tables)
+  rule-consistent n′ m′ place handling fits is-sound =
+      let before = passed n′ m′ t fits is-sound .before in
+      accepted-consistent n′ m′ _ _ fits refl (length-set (t .rules) _ _) (before .bytes) (before .acyclic)
+
+  link-consistent : (n′ m′ c p byte : ℕ) → byte ≤ 1 → c < n′ → p < n′ → shaped n′ m′ t ≡ true → sound n′ m′ t ≡ true
+      → Acyclic n′ (upOf n′ (set (t .links) (c * n′ + p) byte)) → Stays (calls.accepted n′ m′ t (set (t .links) (c * n′ + p) byte) (t .rules) .tables)
+  link-consistent n′ m′ c p byte small hc hp fits is-sound acyclic =
+      accepted-consistent n′ m′ _ _ fits (length-set (t .links) _ _) refl (changed-bytes n′ m′ t (passed n′ m′ t fits is-sound) c p hc hp byte small) acyclic
 
   edit-consistent : (n′ m′ : ℕ) (e : Edit) → Stays (editOutcome n′ m′ t e .tables)
   unfolding editOutcome calls.addRule calls.takeRule calls.addLink calls.takeLink
   edit-consistent n′ m′ (addRule k j h) =
       check-holds 1 t _ Stays _ s λ fits. check-holds 2 t _ Stays _ s λ _. check-holds 3 t _ Stays _ s λ _.
-      check-holds 4 t _ Stays _ s λ _. check-holds 5 t _ Stays _ s λ _. accepted-consistent n′ m′ _ _ fits refl (length-set (t .rules) _ _)
+      check-holds 4 t _ Stays _ s λ _. check-holds 5 t _ Stays _ s λ is-sound. rule-consistent n′ m′ _ _ fits is-sound
   edit-consistent n′ m′ (takeRule k j) =
       check-holds 1 t _ Stays _ s λ fits. check-holds 2 t _ Stays _ s λ _. check-holds 3 t _ Stays _ s λ _.
-      check-holds 5 t _ Stays _ s λ _. check-holds 6 t _ Stays _ s λ _. accepted-consistent n′ m′ _ _ fits refl (length-set (t .rules) _ _)
+      check-holds 5 t _ Stays _ s λ is-sound. check-holds 6 t _ Stays _ s λ _. rule-consistent n′ m′ _ _ fits is-sound
   edit-consistent n′ m′ (addLink c p) =
-      check-holds 1 t _ Stays _ s λ fits. check-holds 2 t _ Stays _ s λ _. check-holds 5 t _ Stays _ s λ _.
-      check-holds 7 t _ Stays _ s λ _. check-holds 9 t _ Stays _ s λ _. accepted-consistent n′ m′ _ _ fits (length-set (t .links) _ _) refl
+      check-holds 1 t _ Stays _ s λ fits. check-holds 2 t _ Stays _ s λ within. check-holds 5 t _ Stays _ s λ is-sound.
+      check-holds 7 t _ Stays _ s λ _. check-holds 9 t _ Stays _ s λ no-cycle.
+      let (hc, hp) = both-below within in
+      link-consistent n′ m′ c p 1 (omega arith) hc hp fits is-sound (added-acyclic n′ m′ t (passed n′ m′ t fits is-sound) c p hc hp (not-true _ no-cycle))
   edit-consistent n′ m′ (takeLink c p) =
-      check-holds 1 t _ Stays _ s λ fits. check-holds 2 t _ Stays _ s λ _. check-holds 5 t _ Stays _ s λ _.
-      check-holds 8 t _ Stays _ s λ _. accepted-consistent n′ m′ _ _ fits (length-set (t .links) _ _) refl
+      check-holds 1 t _ Stays _ s λ fits. check-holds 2 t _ Stays _ s λ within. check-holds 5 t _ Stays _ s λ is-sound.
+      check-holds 8 t _ Stays _ s λ _.
+      let (hc, hp) = both-below within in
+      link-consistent n′ m′ c p 0 (omega arith) hc hp fits is-sound (taken-acyclic n′ m′ t (passed n′ m′ t fits is-sound) c p hc hp)
 
   request-consistent : (n′ m′ : ℕ) (r : Request) → Stays (answerTo (refused 0) n′ m′ t r .tables)
   unfolding answerTo calls.openBook calls.refresh
@@ -135,23 +183,41 @@ module _ (n m : ℕ) (t : Tables) (s : Consistent n m t) where
   request-consistent n′ m′ (find k j) = rw (find-keeps n′ m′ t k j) s
   request-consistent n′ m′ (parties k j) = s
   request-consistent n′ m′ inspect = rw (inspect-keeps n′ m′ t) s
-  request-consistent n′ m′ refresh = check-holds 1 t _ Stays _ s λ fits. check-holds 5 t _ Stays _ s λ _. worked-anew n′ m′ _ _ _ fits refl refl refl
+  request-consistent n′ m′ refresh = check-holds 1 t _ Stays _ s λ fits. check-holds 5 t _ Stays _ s λ right.
+      let (bytes, free) = and-eq-true-iff (bytes-right n′ (t .links)) _ .0 right in
+      worked-anew n′ m′ _ _ _ fits refl refl refl (bytes-mean n′ (t .links) bytes) (free-means n′ (upOf n′ (t .links)) free)
+
+pub call-consistent : (n m : ℕ) (call : Call) (t : Tables) → Consistent n m t → Consistent n m (after call t)
+call-consistent n m call t s = request-consistent n m t s (call .n) (call .m) (call .request)
 
 -- ---- lists
 
-pub run-keeps : {C S : Type 0} (step : C → S → S) (P : S → Type 0) → ((c : C) (s : S) → P s → P (step c s)) → (cs : List C) (s : S) → P s → P (run step cs s)
+pub run-keeps : {C S : Type 0} (turn : C → S → S) (P : S → Type 0) → ((c : C) (s : S) → P s → P (turn c s)) → (cs : List C) (s : S) → P s → P (run turn cs s)
 unfolding run
-run-keeps step P keeps [] s p = p
-run-keeps step P keeps (c ∷ cs) s p = run-keeps step P keeps cs (step c s) (keeps c s p)
+run-keeps turn P keeps [] s p = p
+run-keeps turn P keeps (c ∷ cs) s p = run-keeps turn P keeps cs (turn c s) (keeps c s p)
 
 run-consistent : (n m : ℕ) (cs : List Call) (t : Tables) → Consistent n m t → Consistent n m (run after cs t)
-run-consistent n m = run-keeps after (Consistent n m) (λ c t s. request-consistent n m t s (c .n) (c .m) (c .request))
+run-consistent n m = run-keeps after (Consistent n m) (call-consistent n m)
 
--- ---- the promise
+-- ---- the promises
 
-opened-consistent : (n m : ℕ) (t : Tables) → calls.openBook n m t .reply ≡ given tt → Consistent n m (calls.openBook n m t .tables)
+pub opened-consistent : (n m : ℕ) (t : Tables) → calls.openBook n m t .reply ≡ given tt → Consistent n m (calls.openBook n m t .tables)
 unfolding calls.openBook
 opened-consistent n m t = check-given 1 t _ (Consistent n m) _ λ fits _. zeros-consistent n m t (sized-facts 1 1 n m _ _ _ _ fits)
+
+module _ (n m : ℕ) (t : Tables) (opened : calls.openBook n m t .reply ≡ given tt) (cs : List Call) where
+  abbrev left : Tables
+  left = run after cs (calls.openBook n m t .tables)
+
+  pub stays : Consistent n m left
+  stays = run-consistent n m cs _ (opened-consistent n m t opened)
+
+  pub stays-shaped : shaped n m left ≡ true
+  stays-shaped = consistent-shaped stays
+
+  pub stays-sound : sound n m left ≡ true
+  stays-sound = consistent-sound stays
 
 same-table : {size : ℕ} (xs ys : List ℕ) → length xs ≡ size → length ys ≡ size → Agree xs ys → xs ≡ ys
 same-table xs ys hx hy agree = ext-getD 0 xs ys (hx ∙ sym hy) (λ i _. agree i)
@@ -162,11 +228,10 @@ consistent-agree : (n m : ℕ) (a b : Tables) → Consistent n m a → Consisten
 consistent-agree n m a b s t same-links same-rules i =
     let links = same-table (a .links) (b .links) (s .lengths .links-length) (t .lengths .links-length) same-links in
     let rules = same-table (a .rules) (b .rules) (s .lengths .rules-length) (t .lengths .rules-length) same-rules in
-    ap (λ (l : List ℕ). getD l i 0) (s .right ∙ ap₂ (λ (x y : List ℕ). entriesOf n m (upOf n x) y) links rules ∙ sym (t .right))
+    ap (λ (l : List ℕ). getD l i 0) (s .right .entries ∙ ap₂ (λ (x y : List ℕ). entriesOf n m (upOf n x) y) links rules ∙ sym (t .right .entries))
 
 pub books-agree :
     (n m : ℕ) (s t : Tables) → calls.openBook n m s .reply ≡ given tt → calls.openBook n m t .reply ≡ given tt → (xs ys : List Call)
     → let a = run after xs (calls.openBook n m s .tables) in let b = run after ys (calls.openBook n m t .tables) in
     Agree (a .links) (b .links) → Agree (a .rules) (b .rules) → Agree (a .entries) (b .entries)
-books-agree n m s t opened-s opened-t xs ys =
-    consistent-agree n m _ _ (run-consistent n m xs _ (opened-consistent n m s opened-s)) (run-consistent n m ys _ (opened-consistent n m t opened-t))
+books-agree n m s t opened-s opened-t xs ys = consistent-agree n m _ _ (stays n m s opened-s xs) (stays n m t opened-t ys)

@@ -1,11 +1,11 @@
 -- The checks of a call, and what find and inspect say of sound tables.
---     check-given, check-holds, check-refused     a call that gives something has passed its check; what is so before and after the rest; a refused call leaves the tables
+--     check-cases                    a check refuses and leaves the tables, or its test is passed; check-given, check-holds, check-refused: of what a call leaves
 --     refused-…                      a refused call writes to no table
 --     find-sound                     on sound tables find gives the lookup, a rule with its handling number; so it never refuses by 10: find-never-10
 --     lowest-fails                   where not all pass, `lowest` is the lowest number that fails
 --     inspect-sound                  inspect says sound exactly if the tables are sound
 -- Assumes nothing.
-use mathlib.Core.Path.{_≡_, refl, sym, _∙_, ap, subst}
+use mathlib.Core.Path.{_≡_, refl, sym, _∙_, ap}
 use mathlib.Core.Bool.{Bool, true, false, _&&_, not, true≢false, false≢true}
 use mathlib.Core.Logic.{_≢_, _↔_}
 use mathlib.Core.List.{List}
@@ -30,28 +30,28 @@ use Rattle.tables.proofs.TableLaws.{below-true}
 
 -- ---- checks
 
-given-not-refused : {A : Type 0} (a : A) (number : ℕ) → given a ≡ refused number → ⊥
+pub given-not-refused : {A : Type 0} (a : A) (number : ℕ) → given a ≡ refused number → ⊥
 given-not-refused a number e = let never : _≡_ {A = ℕ} 0 1 = cc in omega arith
 
 module _ {A : Type 0} (number : ℕ) (t : Tables) (next : Outcome A) where
-  -- what holds of the tables that the rest leaves, where the test is passed, holds of those of the whole
+  -- what holds of the refusal, which leaves the tables, and of the rest where the test is passed, holds of the whole
+  pub check-cases : (P : Outcome A → Type 0) (b : Bool) → P (leaves (refused number) t) → (b ≡ true → P next) → P (check number b t next)
+  unfolding check
+  check-cases P true when-refused rest = rest refl
+  check-cases P false when-refused rest = when-refused
+
+  -- of the tables after a call that gives something
   pub check-given : (P : Tables → Type 0) (b : Bool) {a : A} → (b ≡ true → next .reply ≡ given a → P (next .tables))
       → check number b t next .reply ≡ given a → P (check number b t next .tables)
-  unfolding check
-  check-given P true rest is = rest refl is
-  check-given P false {a} rest is = absurd (given-not-refused a number (sym is))
+  check-given P b {a} rest = check-cases (λ o. o .reply ≡ given a → P (o .tables)) b (λ is. absurd (given-not-refused a number (sym is))) rest
 
-  -- what holds of the tables before, and of those that the rest leaves, holds of those of the whole
+  -- of the tables after any
   pub check-holds : (P : Tables → Type 0) (b : Bool) → P t → (b ≡ true → P (next .tables)) → P (check number b t next .tables)
-  unfolding check
-  check-holds P true before rest = rest refl
-  check-holds P false before rest = before
+  check-holds P b before rest = check-cases (λ o. P (o .tables)) b before rest
 
   -- where a refusal of the rest leaves the tables, so does one of the whole
   pub check-refused : (b : Bool) → ((r : ℕ) → next .reply ≡ refused r → next .tables ≡ t) → (r : ℕ) → check number b t next .reply ≡ refused r → check number b t next .tables ≡ t
-  unfolding check
-  check-refused true rest = rest
-  check-refused false rest = λ r e. refl
+  check-refused b rest = check-cases (λ o. (r : ℕ) → o .reply ≡ refused r → o .tables ≡ t) b (λ r e. refl) (λ _. rest)
 
 -- a call that gives something does not refuse
 never-refused : {A : Type 0} (a : A) (t t′ : Tables) (r : ℕ) → leaves (given a) t′ .reply ≡ refused r → leaves (given a) t′ .tables ≡ t
@@ -122,17 +122,22 @@ module _ (n : ℕ) (kinds : n ≤ 128) (rule : ℕ → ℕ) where
       finding-dispute n rule (257 + x .0) (omega arith) (omega arith) (omega arith) ∙ ap (λ (k : ℕ). given (Finding.dispute k)) same
 
 module _ (n m : ℕ) (t : Tables) (k j : ℕ) (fits : shaped n m t ≡ true) (k<n : k < n) (j<m : j < m) (is-sound : sound n m t ≡ true) where
-  pub find-sound : calls.find n m t k j .reply
-      ≡ given (findingFor (λ o. getD (t .rules) (o * m + j) 0) (lookup n (upOf n (t .links)) (ownOf m (t .rules) j) k))
-  unfolding calls.find check entryAt
-  find-sound =
+  abbrev sought : Finding
+  sought = findingFor (λ o. getD (t .rules) (o * m + j) 0) (lookup n (upOf n (t .links)) (ownOf m (t .rules) j) k)
+
+  -- what the entry says is the lookup
+  pub entry-found : findingOf n (λ o. getD (t .rules) (o * m + j) 0) (getD (t .entries) (k * m + j) 0) ≡ given sought
+  unfolding entryAt
+  entry-found =
       let shape = sized-facts 1 1 n m _ _ _ _ fits in
       let s = sound-means n m t (omega (arith, shape .entries-length)) is-sound in
-      let looked = entries-looked n m (upOf n (t .links)) (t .rules) (t .entries) (s .entries) k j k<n j<m in
-      rw (fits, lt-ltb k n k<n, lt-ltb j m j<m)
-      (ap (findingOf n (λ o. getD (t .rules) (o * m + j) 0)) looked
+      ap (findingOf n (λ o. getD (t .rules) (o * m + j) 0)) (entries-looked n m (upOf n (t .links)) (t .rules) (t .entries) (s .entries) k j k<n j<m)
       ∙ finding-entry n (shape .kinds .1) (λ o. getD (t .rules) (o * m + j) 0) (lookup n (upOf n (t .links)) (ownOf m (t .rules) j) k)
-      (lookup-range n (upOf n (t .links)) (ownOf m (t .rules) j) k k<n))
+      (lookup-range n (upOf n (t .links)) (ownOf m (t .rules) j) k k<n)
+
+  pub find-sound : calls.find n m t k j .reply ≡ given sought
+  unfolding calls.find check
+  find-sound = rw (fits, lt-ltb k n k<n, lt-ltb j m j<m) entry-found
 
   pub find-never-10 : calls.find n m t k j .reply ≢ refused 10
   find-never-10 e = given-not-refused _ 10 (sym find-sound ∙ e)

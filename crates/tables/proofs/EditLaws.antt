@@ -1,8 +1,10 @@
--- What holds of every accepted edit, whatever tables it was lent: document 01's part on one edit.
+-- What holds of every accepted edit, whatever tables it was lent.
 --     addRule-edits, takeRule-edits     the one rule changes, and `RuleEdited` holds
 --     addLink-edits, takeLink-edits     the one link changes, and `LinkEdited` holds
 --     replaced-none                     a replaced handling returns 0
+--     untouched-none, none-kept         where the parent's entry for a mark is 0, an edit of the link to it can touch nothing, and no entry of the mark changes
 --     Passed, passed                    what a call knows whose checks of shape and soundness were passed
+--     changed-bytes                     every link byte is 0 or 1 after a link is added or taken
 --     added-acyclic, taken-acyclic      no kind is above itself after a link is added or taken
 -- Each says: only the stated place of rules or links changes; the tables are sound again; entries differ only where the edit can touch, which comes
 -- out the same before and after; the count is the number of places whose entry differs; the tally counts one more.
@@ -22,7 +24,7 @@ use lib.Seq.{getD-set-same, getD-set-other}
 use Rattle.inheritance.specs.declared.Lookup.{Lookup}
 use Rattle.inheritance.specs.declared.Lookup.the-variants.{None, Rule, Dispute}
 use Rattle.inheritance.specs.Above.{Upto, Acyclic, above, count}
-use Rattle.inheritance.specs.Lookup.{lookup}
+use Rattle.inheritance.specs.Lookup.{Below, lookup}
 use Rattle.inheritance.proofs.AboveLaws.{SameBut, no-chain, upto-step, chain-above, link-acyclic, unlink-acyclic}
 use Rattle.inheritance.proofs.TouchLaws.{below-carries, upto-carries, rule-touched, link-keeps-parent, link-touched}
 use Rattle.tables.specs.Entry.{entryOf}
@@ -118,6 +120,7 @@ module _ (n m : ℕ) (t : Tables) (size : length (t .entries) ≡ n * m) (before
     rule-edits returned is = record {
       links-kept = refl;
       rule-changed = set-one (t .rules) (kind * m + mark) handling (rw rules-size (digits-lt kind-in mark-in));
+      below-same = below-same;
       edited = accepted-edits (t .links) ruled returned is (RuleTouches n m kind mark) (before .bytes) (before .acyclic) touched same-reading;
     }
       where
@@ -134,16 +137,16 @@ module _ (n m : ℕ) (t : Tables) (size : length (t .entries) ≡ n * m) (before
                   (λ ne. absurd (apart (ap (λ (own : ℕ → Bool). lookup n up own k) (fun-ext (λ c. own-kept j c hj (inr ne))))));
             }
 
+        below-same : (k j : ℕ) → k < n → j < m → Below n up (ownOf m (t .rules) j) kind k ↔ Below n up (ownOf m ruled j) kind k
+        below-same k j hk hj = (
+          below-carries n up up (ownOf m (t .rules) j) (ownOf m ruled j) kind (λ c p hc hp ne. refl) (λ c hc ne. own-kept j c hj (inl ne)) hk,
+          below-carries n up up (ownOf m ruled j) (ownOf m (t .rules) j) kind (λ c p hc hp ne. refl) (λ c hc ne. sym (own-kept j c hj (inl ne))) hk,
+        )
+
         same-reading : (k j : ℕ) → k < n → j < m → RuleTouches n m kind mark t k j ↔ RuleTouches n m kind mark (accepted n m t (t .links) ruled .tables) k j
         same-reading k j hk hj = (
-          λ r. record {
-            below = below-carries n up up (ownOf m (t .rules) j) (ownOf m ruled j) kind (λ c p hc hp ne. refl) (λ c hc ne. own-kept j c hj (inl ne)) hk (r .below);
-            the-mark = r .the-mark;
-          },
-          λ r. record {
-            below = below-carries n up up (ownOf m ruled j) (ownOf m (t .rules) j) kind (λ c p hc hp ne. refl) (λ c hc ne. sym (own-kept j c hj (inl ne))) hk (r .below);
-            the-mark = r .the-mark;
-          },
+          λ r. record { below = below-same k j hk hj .0 (r .below); the-mark = r .the-mark },
+          λ r. record { below = below-same k j hk hj .1 (r .below); the-mark = r .the-mark },
         )
 
   -- ---- an edit of a link
@@ -179,6 +182,9 @@ module _ (n m : ℕ) (t : Tables) (size : length (t .entries) ≡ n * m) (before
       link-edits returned is = record {
         rules-kept = refl;
         link-changed = set-one (t .links) (child * n + parent) byte (rw links-size (digits-lt child-in parent-in));
+        below-same = below-same;
+        own-rule-same = λ k j. refl;
+        parent-entry-same = parent-kept;
         edited = accepted-edits linked (t .rules) returned is (LinkTouches n m child parent) bytes-after acyclic touched same-reading;
       }
         where
@@ -208,22 +214,35 @@ module _ (n m : ℕ) (t : Tables) (size : length (t .entries) ≡ n * m) (before
               record {
                 below = below;
                 no-own-rule = bare;
-                parent-entry = λ zero. some (none-of-0 _ (sym (entry-before linked (t .rules) returned is parent j parent-in hj) ∙ zero));
+                parent-entry = λ zero. some (none-of-0 _ (omega (arith, entry-before linked (t .rules) returned is parent j parent-in hj, zero)));
               }
+
+          below-same : (k : ℕ) → k < n → Upto n up k child ↔ Upto n up′ k child
+          below-same k hk = (upto-carries n up up′ child same-up hk, upto-carries n up′ up child (λ c p hc hp ne. sym (same-up c p hc hp ne)) hk)
 
           same-reading : (k j : ℕ) → k < n → j < m → LinkTouches n m child parent t k j ↔ LinkTouches n m child parent (accepted n m t linked (t .rules) .tables) k j
           same-reading k j hk hj = (
             λ r. record {
-              below = upto-carries n up up′ child same-up hk (r .below);
+              below = below-same k hk .0 (r .below);
               no-own-rule = r .no-own-rule;
-              parent-entry = λ zero. r .parent-entry (parent-kept j hj ∙ zero);
+              parent-entry = λ zero. r .parent-entry (omega (arith, parent-kept j hj, zero));
             },
             λ r. record {
-              below = upto-carries n up′ up child (λ c p hc hp ne. sym (same-up c p hc hp ne)) hk (r .below);
+              below = below-same k hk .1 (r .below);
               no-own-rule = r .no-own-rule;
-              parent-entry = λ zero. r .parent-entry (sym (parent-kept j hj) ∙ zero);
+              parent-entry = λ zero. r .parent-entry (omega (arith, parent-kept j hj, zero));
             },
           )
+
+-- where the parent's entry is 0, an edit of the link to it can touch nothing
+pub untouched-none : (n m child parent : ℕ) (t : Tables) (k j : ℕ) → getD (t .entries) (parent * m + j) 0 ≡ 0 → ¬ LinkTouches n m child parent t k j
+untouched-none n m child parent t k j zero touches = touches .parent-entry (omega (arith, zero))
+
+-- .. and so no entry of that mark changes
+pub none-kept : (n m child parent byte : ℕ) (t t′ : Tables) (returned : ℕ) → LinkEdited n m child parent byte t t′ returned
+    → (k j : ℕ) → k < n → j < m → getD (t .entries) (parent * m + j) 0 ≡ 0 → getD (t .entries) (k * m + j) 0 ≡ getD (t′ .entries) (k * m + j) 0
+none-kept n m child parent byte t t′ returned e k j hk hj zero = by-cases (ℕ-discrete (getD (t .entries) (k * m + j) 0) (getD (t′ .entries) (k * m + j) 0))
+    (λ same. same) (λ differ. absurd (untouched-none n m child parent t k j zero (e .edited .touched k j hk hj differ)))
 
 -- ---- the four edits
 
@@ -249,6 +268,9 @@ module _ (n m : ℕ) (t : Tables) (s : Passed n m t) (child parent : ℕ) (child
 
   changed-there : (byte : ℕ) → byte ≤ 1 → upOf n (set (t .links) (child * n + parent) byte) child parent ≡ eqb byte 1
   changed-there byte small = up-set n m t (s .sizes .entries-size) (s .before) child parent byte child-in parent-in (s .lengths .links-length) small
+
+  pub changed-bytes : (byte : ℕ) → byte ≤ 1 → (i : ℕ) → i < n * n → getD (set (t .links) (child * n + parent) byte) i 0 ≤ 1
+  changed-bytes byte small = bytes-after n m t (s .sizes .entries-size) (s .before) child parent byte child-in parent-in (s .lengths .links-length) small
 
   pub added-acyclic : (eqb parent child || above n (upOf n (t .links)) parent child) ≡ false → Acyclic n (upOf n (set (t .links) (child * n + parent) 1))
   added-acyclic e =

@@ -3,7 +3,7 @@
 --     handled-none, handled-some                                  a rule with no handling number, and with one
 -- Assumes nothing.
 use mathlib.Core.Path.{_≡_, refl}
-use mathlib.Core.Bool.{false, _&&_}
+use mathlib.Core.Bool.{Bool, true, false, _&&_}
 use Prim.Native.Nat.{ℕ, _+_, _-_, _≤_, _<_}
 use native.Mathlib.Omega.{arith}
 use lib.Dec.{leb}
@@ -17,6 +17,9 @@ handled-none o h e = rw e refl
 pub handled-some : (o h : ℕ) → 0 < h → handled o h ≡ given (Finding.rule o h)
 handled-some o h some = rw (ne-eqb h 0 (λ e. omega arith), handled) refl
 
+taken : {A : Type 0} {x : A} (y : A) (b : Bool) → b ≡ true → _≡_ {A = A} (elim b [ true ↦ x | false ↦ y ]) x
+taken y b e = rw e refl
+
 module _ (n : ℕ) (rule : ℕ → ℕ) (e : ℕ) where
   pub finding-none : e ≡ 0 → findingOf n rule e ≡ given Finding.none
   unfolding findingOf
@@ -24,7 +27,7 @@ module _ (n : ℕ) (rule : ℕ → ℕ) (e : ℕ) where
 
   pub finding-rule : 0 < e → e ≤ n → findingOf n rule e ≡ handled (e - 1) (rule (e - 1))
   unfolding findingOf
-  finding-rule some low = rw (ne-eqb e 0 (λ x. omega arith), le-leb e n low, findingOf) refl
+  finding-rule some low = rw (ne-eqb e 0 (λ x. omega arith), findingOf) (taken _ _ (le-leb e n low))
 
   pub finding-dispute : n < e → 257 ≤ e → e ≤ 256 + n → findingOf n rule e ≡ given (Finding.dispute (e - 257))
   unfolding findingOf

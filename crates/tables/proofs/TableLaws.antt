@@ -5,6 +5,7 @@
 --     differ-same, differ-le                            whether two numbers differ
 --     differing-self, differing-set                     how many places differ: none from the list itself, and after a store where none did
 --     differing-count                                   it is the number of places i at which the two are not the same
+--     saturated-next, saturated-full                    one more, up to 4,294,967,295
 --     tally-next, tally-full                            a tally counts one more, up to 4,294,967,295, where it stays; length-tallied: as long as before
 -- Assumes nothing.
 use mathlib.Core.Path.{_≡_, refl, sym, ap, ap₂, _∙_, subst}
@@ -143,14 +144,20 @@ differing-count (x ∷ xs) (y ∷ ys) len =
 
 -- ---- the tally
 
+pub saturated-next : (x : ℕ) → x < 4294967295 → saturated x ≡ x + 1
+saturated-next x h = rw (lt-ltb x 4294967295 h, saturated) refl
+
+pub saturated-full : (x : ℕ) → 4294967295 ≤ x → saturated x ≡ x
+saturated-full x h = rw (le-ltb x 4294967295 h, saturated) refl
+
 module _ (place : ℕ) (tally : List ℕ) where
   pub tally-next : getD tally place 0 < 4294967295 → tallied place tally ≡ set tally place (getD tally place 0 + 1)
   unfolding tallied
-  tally-next h = rw (lt-ltb (getD tally place 0) 4294967295 h, saturated) refl
+  tally-next h = ap (set tally place) (saturated-next (getD tally place 0) h)
 
   pub tally-full : 4294967295 ≤ getD tally place 0 → tallied place tally ≡ tally
   unfolding tallied
-  tally-full h = rw (le-ltb (getD tally place 0) 4294967295 h, saturated) (set-getD tally place 0)
+  tally-full h = ap (set tally place) (saturated-full (getD tally place 0) h) ∙ set-getD tally place 0
 
   pub length-tallied : length (tallied place tally) ≡ length tally
   unfolding tallied

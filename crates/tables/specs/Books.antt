@@ -1,21 +1,24 @@
 -- Calls as values, and lists of them, each list on a book of its own.
 --     Call        a size and what is asked: one of the nine calls, with any arguments; Edit: one of the four edits
 --     Answer      what a call answers, of whichever kind it is
+--     RefusedBy   the answer is a refusal of this number
 --     outcome     what a call answers and the tables that it leaves; after: the tables alone
 --     Carried     what carrying out a call on tables gives
 --     callOf, answered     the call, and the answer, that the code's values stand for; editOf: the edit
 --     run         the state that a list of calls leaves: each call gets it as the call before left it
+--     editsSince  the edits accepted since the book's last accepted open
 --     Agree       every place of two tables holds the same number
 -- Assumes nothing.
 use mathlib.Core.Path.{_≡_}
+use mathlib.Core.Bool.{Bool, true, false}
 use mathlib.Core.List.{List, [], _∷_}
-use Prim.Native.Nat.{ℕ}
+use Prim.Native.Nat.{ℕ, _+_}
 use lib.ListN.{getD}
 use Rattle.tables.specs.declared.Edit.{Edit as CodeEdit}
 use Rattle.tables.specs.declared.Request.{Request as CodeRequest}
 use Rattle.tables.specs.declared.Call.{Call as CodeCall}
 use Rattle.tables.specs.declared.Answer.{Answer as CodeAnswer}
-use Rattle.tables.specs.Reply.{Reply, refused, Finding, Fault, TwoKinds, opened, edited, found, paired, inspected}
+use Rattle.tables.specs.Reply.{Reply, refused, given, Finding, Fault, TwoKinds, opened, edited, found, paired, inspected}
 use Rattle.tables.specs.Tables.{Tables}
 use Rattle.tables.specs.Calls as calls
 use Rattle.tables.specs.Calls.{Outcome, PartiesGive}
@@ -45,6 +48,13 @@ pub data Answer : Type 0 where
   finding : Reply Finding → Answer
   pairing : Reply TwoKinds → Answer
   inspecting : Reply Fault → Answer
+
+abbrev pub RefusedBy : ℕ → Answer → Type 0
+RefusedBy number (opening reply) = reply ≡ refused number
+RefusedBy number (editing reply) = reply ≡ refused number
+RefusedBy number (finding reply) = reply ≡ refused number
+RefusedBy number (pairing reply) = reply ≡ refused number
+RefusedBy number (inspecting reply) = reply ≡ refused number
 
 pub record Result : Type 0 where
   pub answer : Answer
@@ -116,6 +126,37 @@ answered (CodeAnswer.Inspected reply) = inspecting (inspected reply)
 unfoldable pub run : {C S : Type 0} → (step : C → S → S) → List C → S → S
 run step [] s = s
 run step (c ∷ cs) s = run step cs (step c s)
+
+-- the answer is no refusal
+abbrev pub isGiven : {A : Type 0} → Reply A → Bool
+isGiven (refused number) = false
+isGiven (given a) = true
+
+abbrev pub accepts : Answer → Bool
+accepts (opening reply) = isGiven reply
+accepts (editing reply) = isGiven reply
+accepts (finding reply) = isGiven reply
+accepts (pairing reply) = isGiven reply
+accepts (inspecting reply) = isGiven reply
+
+-- the edits since the last open, where there were `count` before an accepted call: open starts anew, an edit is one more. A refresh is no edit
+abbrev pub withCall : Request → (count : ℕ) → ℕ
+withCall openBook count = 0
+withCall (edit e) count = count + 1
+withCall (find kind mark) count = count
+withCall (parties kind mark) count = count
+withCall inspect count = count
+withCall refresh count = count
+
+-- .. and after a call that may be refused, which counts nothing
+abbrev pub countedBy : (accepted : Bool) → Request → (count : ℕ) → ℕ
+countedBy true request count = withCall request count
+countedBy false request count = count
+
+-- the edits accepted since the book's last accepted open, where `count` were before these calls
+unfoldable pub editsSince : (count : ℕ) → List Call → Tables → ℕ
+editsSince count [] t = count
+editsSince count (call ∷ cs) t = editsSince (countedBy (accepts (outcome (refused 0) call t .answer)) (call .request) count) cs (after call t)
 
 abbrev pub Agree : List ℕ → List ℕ → Type 0
 Agree xs ys = (i : ℕ) → getD xs i 0 ≡ getD ys i 0

@@ -1,4 +1,4 @@
--- What each call answers and what it leaves in the tables, as document 01 has it, paragraph by paragraph. The checks of a call stand in the paper's
+-- What each call answers and what it leaves in the tables, as docs/SCOPE.md has it, call by call. The checks of a call stand in its
 -- order, each with the number of its refusal.
 --     openBook, addRule, takeRule, addLink, takeLink, find, inspect, refresh
 --     PartiesGive    parties alone is stated by a property: its refusals are exact, and what it gives are some two different kinds left

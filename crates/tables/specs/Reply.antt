@@ -1,7 +1,7 @@
--- What a call answers, in document 01's numbers and values, and which case of the code's enums stands for which.
+-- What a call answers, in the numbers and values of docs/SCOPE.md, and which case of the code's enums stands for which.
 --     Reply             a refusal with its number, or what the call gives
 --     Finding           what find gives; Fault: what inspect gives; TwoKinds: what parties gives
---     refusalNumber     document 01's number of each refusal
+--     refusalNumber     the number of each refusal
 --     opened, edited, found, paired, inspected    the number and values of each case of an answer: the promises use these
 -- Assumes nothing.
 use Prim.Native.Nat.{ℕ}

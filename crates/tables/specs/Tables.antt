@@ -6,7 +6,7 @@
 --     upOf, ownOf     the links and, for one mark, the own rules
 --     entriesOf       every entry worked out from the links and the rules alone
 --     links-right     every link byte is 0 or 1, and no kind is above itself
---     sound           document 01's sound tables: every link byte is 0 or 1, and `sound-over` the links: no kind is above itself, every entry equals
+--     sound           sound tables: every link byte is 0 or 1, and `sound-over` the links: no kind is above itself, every entry equals
 --                     its lookup
 --     differing       at how many places two tables differ
 --     tallied         one more accepted edit

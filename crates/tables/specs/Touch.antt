@@ -1,6 +1,6 @@
--- What an edit can touch, on the tables before the edit or after it. An entry at (k, j) may differ only where the edit touches it.
---     RuleTouches    the edit is of the rule of kind c for a mark: as document 01 has it
---     LinkTouches    the edit is of the link from child c to parent p: as request U6 has it
+-- What an edit can touch (docs/SCOPE.md), on the tables before the edit or after it. An entry at (k, j) may differ only where the edit touches it.
+--     RuleTouches    the edit is of the rule of kind c for a mark
+--     LinkTouches    the edit is of the link from child c to parent p
 -- Assumes nothing.
 use mathlib.Core.Path.{_≡_}
 use mathlib.Core.Logic.{_≢_}

@@ -7,7 +7,7 @@ ghost use Prim.Native.Nat.{_+_, _*_, _<_};
 ghost use Rattle.tables.specs.Entry.{entryOf, lookupOf};
 ghost use Rattle.tables.specs.Reply.{refusalNumber};
 
-// Why a call is refused. Document 01 gives each reason its number.
+// Why a call is refused. docs/SCOPE.md has each reason with its number.
 pub enum Refusal {
     Shape,
     Kind,
@@ -93,7 +93,7 @@ pub enum Answer {
 }
 
 impl Refusal {
-    // Document 01's number.
+    // Its number.
     pub fn number(self) -> u8
         ensures { λ r. ⌜ r ≡ refusalNumber self ⌝ }
     {

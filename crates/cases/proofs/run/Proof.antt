@@ -2,14 +2,12 @@
 use Prim.Native.Nat.{_≤_, _-_}
 use borrow.Author.Needs.{needs}
 use lib.ListN.{length}
-use Rattle.tables.specs.Tables.{lent}
-use Rattle.session.specs.Parts.{Room}
 use Rattle.cases.proofs.run.Statement.{statement}
 use Rattle.cases.proofs.run.Tie as tie
 
 abbrev Inv-loop : tie.InvT-loop
 Inv-loop lines links₀ rules₀ entries₀ tally₀ text₀ state₀ at₀ links rules entries tally text state at =
-    Room (lent links rules entries tally) × (state .from ≤ at) × (at ≤ length lines)
+    (state .from ≤ at) × (at ≤ length lines)
 
 abbrev μ-loop : tie.MeasureT-loop
 μ-loop lines links₀ rules₀ entries₀ tally₀ text₀ state₀ at₀ links rules entries tally text state at =
@@ -23,10 +21,6 @@ run-spec =
     μ-loop
     (λ c. search needs)
     (λ c κs. search needs)
-    (λ c. search needs)
-    (λ c. search needs)
-    (λ c. search needs)
-    (λ c. search needs)
     (λ c. search needs)
     (λ c. search needs)
     (λ c. search needs)

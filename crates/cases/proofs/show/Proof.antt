@@ -7,7 +7,7 @@ use Rattle.cases.proofs.show.Statement.{statement}
 use Rattle.cases.proofs.show.Tie as tie
 
 abbrev done : tie.After-write-all-arg2 → tie.After-line
-done c = c .before .before .before .before .before .before .before .before .before .before .before .before .before .before
+done c = c .before .before .before .before .before .before
 
 slice-aggregate-write-all-2 : tie.Need-slice-aggregate-write-all-2
 slice-aggregate-write-all-2 c = sym (length-take-le _ _ (printed-fits (done c .line .ensures .printed)))
@@ -24,8 +24,4 @@ show-spec =
     (λ c κs. search needs)
     (λ c. search needs)
     (λ c κs. search needs)
-    (λ c. search needs)
-    (λ c. search needs)
-    (λ c. search needs)
-    (λ c. search needs)
     (λ c. search needs))

@@ -1,7 +1,7 @@
 -- `house::house_inspect` meets its contract. Assumes nothing.
 use mathlib.Core.Path.{_∙_, ap}
 use borrow.Author.Needs.{needs}
-use Rattle.house.specs.Packed.{packedFault}
+use Rattle.packing.specs.Packed.{packedFault}
 use Rattle.house.proofs.house_inspect.Statement.{statement}
 use Rattle.house.proofs.house_inspect.Tie as tie
 

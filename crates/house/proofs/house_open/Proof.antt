@@ -1,7 +1,7 @@
 -- `house::house_open` meets its contract, by `packed-answer`. Assumes nothing.
 use borrow.Author.Needs.{needs}
 use Rattle.tables.specs.Reply.{opened}
-use Rattle.house.specs.Packed.{packedOpened}
+use Rattle.packing.specs.Packed.{packedOpened}
 use Rattle.house.proofs.AnswerLaws.{packed-answer}
 use Rattle.house.proofs.house_open.Statement.{statement}
 use Rattle.house.proofs.house_open.Tie as tie

@@ -1,7 +1,7 @@
 -- `house::house_refresh` meets its contract, by `packed-answer`. Assumes nothing.
 use borrow.Author.Needs.{needs}
 use Rattle.tables.specs.Reply.{edited}
-use Rattle.house.specs.Packed.{packedEdited}
+use Rattle.packing.specs.Packed.{packedEdited}
 use Rattle.house.proofs.AnswerLaws.{packed-answer}
 use Rattle.house.proofs.house_refresh.Statement.{statement}
 use Rattle.house.proofs.house_refresh.Tie as tie

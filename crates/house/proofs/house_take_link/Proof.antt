@@ -1,7 +1,7 @@
 -- `house::house_take_link` meets its contract, by `packed-answer`. Assumes nothing.
 use borrow.Author.Needs.{needs}
 use Rattle.tables.specs.Reply.{edited}
-use Rattle.house.specs.Packed.{packedEdited}
+use Rattle.packing.specs.Packed.{packedEdited}
 use Rattle.house.proofs.AnswerLaws.{packed-answer}
 use Rattle.house.proofs.house_take_link.Statement.{statement}
 use Rattle.house.proofs.house_take_link.Tie as tie

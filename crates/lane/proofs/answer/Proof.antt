@@ -1,4 +1,4 @@
--- `lane::answer` meets its contract: both places that it reads are within the tables, and its tests are those of document 01,
+-- `lane::answer` meets its contract: both places that it reads are within the tables, and its tests are those of find,
 -- so that the tests that led to a return say which answer is packed there. Assumes nothing.
 use mathlib.Core.Path.{_≡_, refl, sym, ap, _∙_}
 use Prim.Native.Nat.{ℕ, _+_, _-_, _*_, _<_, _≤_}
@@ -13,7 +13,7 @@ use Rattle.tables.specs.Controller.{words16, packed}
 use lib.Arith.{digits-lt}
 use Rattle.tables.proofs.ShapeLaws.{and-iff}
 use Rattle.tables.proofs.FindingLaws.{handled-none, handled-some, finding-rule}
-use Rattle.lane.proofs.ByteLaws.{joined-within}
+use Rattle.tables.proofs.ByteLaws.{joined-within}
 use Rattle.lane.proofs.PackedLaws.{packed-plain, packed-bad}
 use Rattle.lane.proofs.answer.Statement.{statement}
 use Rattle.lane.proofs.answer.Tie as tie

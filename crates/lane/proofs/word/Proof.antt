@@ -4,7 +4,7 @@ use Prim.Native.Nat.{_+_, _*_}
 use native.Mathlib.Omega.{arith}
 use denote.Ref.{now}
 use borrow.Author.Needs.{needs}
-use Rattle.lane.proofs.ByteLaws.{joined-at}
+use Rattle.tables.proofs.ByteLaws.{joined-at}
 use Rattle.lane.proofs.word.Statement.{statement}
 use Rattle.lane.proofs.word.Tie as tie
 

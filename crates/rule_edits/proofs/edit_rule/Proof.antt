@@ -10,7 +10,8 @@ use Rattle.tables.specs.Tables.{Tables, lent}
 use Rattle.relation.proofs.Zeros.{blank-zeros}
 use Rattle.resettling.specs.Known.{Known}
 use Rattle.resettling.proofs.KnownLaws.{fits-sized, fits-tally, known}
-use Rattle.rule_edits.proofs.RuleEditLaws.{rule-unsound, rule-within, rule-absent, rule-untouched, rule-done}
+use Rattle.reruling.proofs.ReruleLaws.{rule-within}
+use Rattle.rule_edits.proofs.RuleEditLaws.{rule-unsound, rule-absent, rule-untouched, rule-done}
 use Rattle.rule_edits.proofs.edit_rule.Statement.{statement}
 use Rattle.rule_edits.proofs.edit_rule.Tie as tie
 

@@ -5,8 +5,10 @@ use Rattle.tables.proofs.ShapeLaws.{product-fits}
 use Rattle.session.proofs.leading.Statement.{statement}
 use Rattle.session.proofs.leading.Tie as tie
 
-mul-asked : tie.Need-mul-asked
-mul-asked c = let p = product-fits {a = c .args .a} {b = c .args .b} (search needs) (search needs) in record { fits = omega arith }
-
 pub leading-spec : {M : Type 1} → statement M
-leading-spec = tie.close (tie.spec mul-asked (λ c. search needs) (λ c. search needs))
+leading-spec =
+    tie.close
+    (tie.spec
+    (λ c. let p = product-fits {a = c .args .a} {b = c .args .b} (search needs) (search needs) in record { fits = omega arith })
+    (λ c κs. search needs)
+    (λ c. search needs))

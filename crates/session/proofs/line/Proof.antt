@@ -3,31 +3,32 @@ use mathlib.Core.Path.{_≡_, sym, ap, subst, _∙_}
 use borrow.Author.Needs.{needs}
 use Rattle.tables.specs.Reply.{given}
 use Rattle.forms.specs.Forms.{formOf}
-use Rattle.session.specs.declared.Wanted.{Wanted}
-use Rattle.session.specs.Line.{callFor}
-use Rattle.session.specs.Parts.{OfBookIf, wanted}
+use Rattle.requests.specs.Requests.{callFor, OfBookIf, wanted}
+use Rattle.requests.specs.declared.Wanted.{Wanted}
 use Rattle.session.proofs.TurnLaws.{by-call, unchanged}
 use Rattle.session.proofs.line.Statement.{statement}
 use Rattle.session.proofs.line.Tie as tie
 
 abbrev start : tie.After-call-for → tie.Start
-start c = c .before .before .before .before .before .before .before
+start c = c .before .before .before
 
 -- what the line asks for
 asked : (c : tie.After-call-for) → wanted (c .call-for .result) ≡ callFor (start c .args .n) (start c .args .m) (formOf (start c .args .input .now))
 asked c = c .call-for .ensures .0 ∙ ap (callFor (start c .args .n) (start c .args .m)) (c .before .read .ensures)
 
+abbrev told : tie.After-carry-arg5 → tie.After-call
+told c = c .before .before .before .before .before .before
+
 carry-requires : tie.Need-carry-requires
 carry-requires c κs =
-    let k = c .before .before .before .before .before .before in
+    let k = told c in
     let a = k .before .before in
     (search needs, subst (λ (w : Wanted). OfBookIf (start a .args .n) (start a .args .m) (wanted w)) (k .call .given .1) (a .call-for .ensures .1))
 
 returns : tie.Need-returns
 returns c =
-    let d = c .before .before .before .before .before .before .before .before in
-    let k = d .before .before .before .before .before .before .before in
-    by-call _ (sym (ap wanted (k .call .given .1)) ∙ asked (k .before .before)) (d .carry .ensures)
+    let k = told (c .before) in
+    by-call _ (sym (ap wanted (k .call .given .1)) ∙ asked (k .before .before)) (c .carry .ensures)
 
 returns-2 : tie.Need-returns-2
 returns-2 c =
@@ -44,9 +45,5 @@ line-spec =
     carry-requires
     (λ c. search needs)
     (λ c κs. search needs)
-    (λ c. search needs)
-    (λ c. search needs)
-    (λ c. search needs)
-    (λ c. search needs)
     returns
     returns-2)

@@ -1,0 +1,3 @@
+pub mod PassingLaws
+pub mod ShortLaws
+pub mod StreamLaws
