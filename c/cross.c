@@ -1,10 +1,12 @@
 /* Holds every call of a house to docs/SCOPE.md as this file reads it: the kinds seen, those left of them and a plain
    recursive lookup, and the edits by working every entry out anew.
    All books of up to 3 kinds and 2 marks whose links have no cycle, and many random ones of 4 to 6 kinds and 2 marks:
-   every call on each, with every kind and mark, the first that there is not, and the largest number; with each table
-   one too short and one too long; and again on the book damaged, and as it was stored when the lookup was another. A
-   few named books have their answers and entries written out as well, and larger tables show the edges of the sizes.
-   It fails where a call differs, and where an answer of a call never came up. */
+   every call on each, with every kind and mark, the first that there is not, and the largest number, and an edit with
+   each of these for some caller and for one that there is not; with each table one too short and one too long, and the
+   tally as short as it once was; and again on the book damaged, and as it was stored when the lookup was another.
+   Callers and the numbers of the tally are drawn, so that they meet all the rest and do not multiply it. A few named
+   books have their answers and entries written out as well, and larger tables show the edges of the sizes.
+   It fails where a call differs, and where an answer of a call came up too seldom. */
 
 #include <stdio.h>
 #include <stdlib.h>
@@ -21,25 +23,49 @@ struct book {
     uint16_t n, m;
     uint8_t links[KINDS * KINDS + 4];
     uint16_t rules[KINDS * MARKS + 2], entries[KINDS * MARKS + 2];
-    uint32_t tally[2];
+    uint32_t tally[HOUSE_CALLERS + 1];
 };
+
+/* ---- chance */
+
+static unsigned long chance(void) {
+    static uint64_t state = 88172645463325252u;
+    state ^= state << 13;
+    state ^= state >> 7;
+    state ^= state << 17;
+    return (unsigned long)(state >> 20);
+}
+
+/* A number from low to high; the two ends come often. */
+static uint16_t between(unsigned low, unsigned high) {
+    unsigned long way = chance() % 3;
+    return (uint16_t)(way == 0 ? low : way == 1 ? high : low + chance() % (high - low + 1));
+}
+
+/* A number for a tally: often the highest that there is, or the one before it. */
+static uint32_t tallied(void) {
+    unsigned long way = chance() % 4;
+    return way < 2 ? UINT32_MAX - (uint32_t)way : (uint32_t)chance();
+}
 
 /* ---- the calls */
 
 enum call { OPEN, ADD_RULE, TAKE_RULE, ADD_LINK, TAKE_LINK, REFRESH, INSPECT, PARTIES, CALLS };
 
-/* Of each call its arguments (k a kind, m a mark, h a handling) and the refusals that it gives. They leave a 0 in each
-   row, which stands for any other answer. */
+static int is_edit(enum call call) { return call >= ADD_RULE && call <= TAKE_LINK; }
+
+/* Of each call its arguments (k a kind, m a mark, h a handling), after the caller that an edit has, and the refusals
+   that it gives. They leave a 0 in each row, which stands for any other answer. */
 static const struct {
     const char *name;
     char arguments[4];
-    uint8_t refusals[6];
+    uint8_t refusals[7];
 } calls[CALLS] = {
     [OPEN] = {"open", "", {1}},
-    [ADD_RULE] = {"add rule", "kmh", {1, 2, 3, 4, 5}},
-    [TAKE_RULE] = {"take rule", "km", {1, 2, 3, 5, 6}},
-    [ADD_LINK] = {"add link", "kk", {1, 2, 5, 7, 9}},
-    [TAKE_LINK] = {"take link", "kk", {1, 2, 5, 8}},
+    [ADD_RULE] = {"add rule", "kmh", {1, 13, 2, 3, 4, 5}},
+    [TAKE_RULE] = {"take rule", "km", {1, 13, 2, 3, 5, 6}},
+    [ADD_LINK] = {"add link", "kk", {1, 13, 2, 5, 7, 9}},
+    [TAKE_LINK] = {"take link", "kk", {1, 13, 2, 5, 8}},
     [REFRESH] = {"refresh", "", {1, 5}},
     [INSPECT] = {"inspect", "", {1}},
     [PARTIES] = {"parties", "km", {1, 2, 3, 5, 11}},
@@ -47,8 +73,11 @@ static const struct {
 
 /* The numbers that follow the tables. */
 struct arguments {
-    uint16_t x, y, z;
+    uint16_t caller, x, y, z;
 };
+
+/* None of the first is wrong by itself, on any book; all of the others are. */
+static const struct arguments good = {0, 0, 0, 20}, bad = {65535, 65535, 65535, 0};
 
 /* A size, and tables with their lengths. */
 struct lent {
@@ -67,10 +96,10 @@ struct lent {
 static uint32_t make(enum call call, const struct lent *t, struct arguments a) {
     switch (call) {
     case OPEN: return house_open(LENT(t));
-    case ADD_RULE: return house_add_rule(LENT(t), a.x, a.y, a.z);
-    case TAKE_RULE: return house_take_rule(LENT(t), a.x, a.y);
-    case ADD_LINK: return house_add_link(LENT(t), a.x, a.y);
-    case TAKE_LINK: return house_take_link(LENT(t), a.x, a.y);
+    case ADD_RULE: return house_add_rule(LENT(t), a.caller, a.x, a.y, a.z);
+    case TAKE_RULE: return house_take_rule(LENT(t), a.caller, a.x, a.y);
+    case ADD_LINK: return house_add_link(LENT(t), a.caller, a.x, a.y);
+    case TAKE_LINK: return house_take_link(LENT(t), a.caller, a.x, a.y);
     case REFRESH: return house_refresh(LENT(t));
     case INSPECT: return house_inspect(LENT(t));
     default: return house_parties(LENT(t), a.x, a.y);
@@ -80,12 +109,12 @@ static uint32_t make(enum call call, const struct lent *t, struct arguments a) {
 /* A book with the lengths that it should have. */
 static struct lent lend(struct book *b) {
     size_t n = b->n, m = b->m;
-    return (struct lent){b->n, b->m, b->links, b->rules, b->entries, b->tally, {n * n, n * m, n * m, 1}};
+    return (struct lent){b->n, b->m, b->links, b->rules, b->entries, b->tally, {n * n, n * m, n * m, HOUSE_CALLERS}};
 }
 
-static uint32_t made(enum call call, struct book *b, uint16_t x, uint16_t y, uint16_t z) {
+static uint32_t made(enum call call, struct book *b) {
     struct lent t = lend(b);
-    return make(call, &t, (struct arguments){x, y, z});
+    return make(call, &t, good);
 }
 
 /* ---- docs/SCOPE.md, read plainly */
@@ -178,8 +207,8 @@ static uint32_t emptied(struct lent t) {
     return 0;
 }
 
-static uint32_t accepted(struct book *b) {
-    if (b->tally[0] < UINT32_MAX) b->tally[0]++;
+static uint32_t accepted(struct book *b, uint16_t caller) {
+    if (b->tally[caller] < UINT32_MAX) b->tally[caller]++;
     return work_out(b);
 }
 
@@ -187,7 +216,7 @@ static uint32_t change_rule(struct book *b, enum call call, struct arguments a) 
     uint16_t *rule = &b->rules[a.x * b->m + a.y];
     if (call == TAKE_RULE && *rule == 0) return HOUSE_REFUSED_NO_RULE;
     *rule = call == ADD_RULE ? a.z : 0;
-    return accepted(b);
+    return accepted(b, a.caller);
 }
 
 static uint32_t change_link(struct book *b, enum call call, struct arguments a) {
@@ -196,7 +225,7 @@ static uint32_t change_link(struct book *b, enum call call, struct arguments a) 
     if (adding && (a.x == a.y || above(b, a.y, a.x))) return HOUSE_REFUSED_CYCLE;
     if (!adding && !there) return HOUSE_REFUSED_NOT_LINKED;
     b->links[a.x * b->n + a.y] = (uint8_t)adding;
-    return accepted(b);
+    return accepted(b, a.caller);
 }
 
 /* Some two different kinds left will do: what the library gave, if it is that. */
@@ -210,6 +239,7 @@ static uint32_t parties(const struct book *b, struct arguments a, uint32_t given
 /* The refusals of an argument by itself. */
 static uint32_t wrong_argument(const struct book *b, enum call call, struct arguments a) {
     const char *what = calls[call].arguments;
+    if (is_edit(call) && a.caller >= HOUSE_CALLERS) return HOUSE_REFUSED_CALLER;
     if (what[0] == 'k' && a.x >= b->n) return HOUSE_REFUSED_KIND;
     if (what[1] == 'k' && a.y >= b->n) return HOUSE_REFUSED_KIND;
     if (what[1] == 'm' && a.y >= b->m) return HOUSE_REFUSED_MARK;
@@ -234,7 +264,7 @@ static uint32_t expect(enum call call, struct book *b, struct arguments a, uint3
 static unsigned long books, old_books, calls_made;
 
 /* How often each call gave each refusal, and under 0 any other answer. */
-static unsigned long answers[CALLS][12];
+static unsigned long answers[CALLS][14];
 
 static void fail_at(const char *what, unsigned n, unsigned m) {
     fprintf(stderr, "%s differs on a book of %u kinds and %u marks\n", what, n, m);
@@ -250,6 +280,9 @@ static void fail(const char *what, const struct book *b) {
         for (unsigned j = 0; j < b->m; j++) fprintf(stderr, " %u", b->entries[c * b->m + j]);
         fprintf(stderr, "\n");
     }
+    fprintf(stderr, " tally");
+    for (unsigned c = 0; c < HOUSE_CALLERS; c++) fprintf(stderr, " %lu", (unsigned long)b->tally[c]);
+    fprintf(stderr, "\n");
     fail_at(what, b->n, b->m);
 }
 
@@ -288,32 +321,36 @@ static void try_calls(const struct book *b) {
         for (unsigned i = 0; i < many(what[0], b); i++)
             for (unsigned j = 0; j < many(what[1], b); j++)
                 for (unsigned k = 0; k < many(what[2], b); k++) {
-                    struct arguments a = {number(what[0], b, i), number(what[1], b, j), number(what[2], b, k)};
-                    try_call(call, b, a, fault);
+                    uint16_t x = number(what[0], b, i), y = number(what[1], b, j), z = number(what[2], b, k);
+                    try_call(call, b, (struct arguments){between(0, HOUSE_CALLERS - 1), x, y, z}, fault);
+                    if (is_edit(call))
+                        try_call(call, b, (struct arguments){between(HOUSE_CALLERS, 65535), x, y, z}, fault);
                 }
     }
 }
 
-/* Every call with a length that is one off, whatever its arguments. */
+/* Every call with a length that is one off, and with a tally of no number or of one, as it once was, whatever its
+   arguments. */
 static void try_lengths(const struct book *b) {
-    static const struct arguments arguments[] = {{0, 0, 20}, {65535, 65535, 0}};
     struct book lent = *b;
     for (enum call call = 0; call < CALLS; call++)
-        for (unsigned i = 0; i < 4 * 2 * 2; i++) {
+        for (unsigned i = 0; i < 5 * 2 * 2; i++) {
             struct lent t = lend(&lent);
-            t.lengths[i / 4] += i % 2 == 0 ? 1 : (size_t)-1;
-            if (counted(call, &t, arguments[i / 2 % 2]) != HOUSE_REFUSED_BOOK || memcmp(&lent, b, sizeof lent) != 0)
-                fail(calls[call].name, b);
+            if (i / 4 < 4) t.lengths[i / 4] += i % 2 == 0 ? 1 : (size_t)-1;
+            else t.lengths[3] = i % 2;
+            uint32_t given = counted(call, &t, i / 2 % 2 == 0 ? good : bad);
+            if (given != HOUSE_REFUSED_BOOK || memcmp(&lent, b, sizeof lent) != 0) fail(calls[call].name, b);
         }
 }
 
-/* How often a call that may refuse with 5 got past that. */
+/* How often a call that may refuse with 5 got past that: its other answers and the refusals that are checked later, of
+   which 13 is none. */
 static unsigned long past_five(void) {
     unsigned long sum = 0;
     for (enum call call = ADD_RULE; call <= PARTIES; call++)
         if (calls[call].arguments[0] != 0) {
             sum += answers[call][0];
-            for (unsigned r = 6; r < MANY(answers[call]); r++) sum += answers[call][r];
+            for (unsigned r = 6; r <= 11; r++) sum += answers[call][r];
         }
     return sum;
 }
@@ -331,13 +368,13 @@ static void try_old(const struct book *b) {
     }
     if (count == 0) return;
     old_books++;
-    if (made(INSPECT, &old, 0, 0, 0) != HOUSE_WRONG_ENTRY + lowest) fail("inspect of an old book", &old);
+    if (made(INSPECT, &old) != HOUSE_WRONG_ENTRY + lowest) fail("inspect of an old book", &old);
     unsigned long before = past_five();
     try_calls(&old);
     if (past_five() != before) fail("edit of an old book", &old);
-    if (made(REFRESH, &old, 0, 0, 0) != count || memcmp(&old, b, sizeof old) != 0) fail("refresh of an old book", b);
-    if (made(INSPECT, &old, 0, 0, 0) != HOUSE_SOUND) fail("inspect of a book brought over", b);
-    if (house_is_refusal(made(ADD_RULE, &old, 0, 0, 20))) fail("edit of a book brought over", b);
+    if (made(REFRESH, &old) != count || memcmp(&old, b, sizeof old) != 0) fail("refresh of an old book", b);
+    if (made(INSPECT, &old) != HOUSE_SOUND) fail("inspect of a book brought over", b);
+    if (house_is_refusal(made(ADD_RULE, &old))) fail("edit of a book brought over", b);
 }
 
 static void try_book(const struct book *b) {
@@ -360,7 +397,7 @@ static int make_book(struct book *b, uint16_t n, uint16_t m, unsigned long links
     memset(b, 0, sizeof *b);
     b->n = n;
     b->m = m;
-    b->tally[0] = links % 5 == 4 ? UINT32_MAX - (uint32_t)(rules % 2) : (uint32_t)rules;
+    for (unsigned c = 0; c < MANY(b->tally); c++) b->tally[c] = tallied();
     for (unsigned i = 0; i < (unsigned)n * n; i++) b->links[i] = links >> i & 1;
     for (unsigned i = 0; i < (unsigned)n * m; i++) b->rules[i] = rules >> i & 1 ? (i / m % 3 == 0 ? 10 : 20) : 0;
     for (unsigned c = 0; c < n; c++)
@@ -419,7 +456,7 @@ static void try_link_past_own_rule(void) {
     static const struct pair links[] = {{2, 0}, {2, 1}}, rules[] = {{0, 10}, {1, 20}};
     static const uint16_t before[] = {1, 2, 259}, after[] = {1, 2, 2};
     try_edit("a link past an own rule", named_book(3, 1, links, MANY(links), rules, MANY(rules)), before,
-             (struct step){ADD_LINK, {1, 0, 0}, 1}, after);
+             (struct step){ADD_LINK, {0, 1, 0, 0}, 1}, after);
 }
 
 /* A rule at kind 2 leaves kind 3 disputed as it was, and yet kind 5 below that one is newly disputed: kind 4 hid the
@@ -429,7 +466,7 @@ static void try_rule_past_same_entry(void) {
                              rules[] = {{0, 10}, {1, 20}, {4, 20}};
     static const uint16_t before[] = {1, 2, 0, 260, 5, 5}, after[] = {1, 2, 3, 260, 5, 262};
     try_edit("a rule past the same entry", named_book(6, 1, links, MANY(links), rules, MANY(rules)), before,
-             (struct step){ADD_RULE, {2, 0, 20}, 2}, after);
+             (struct step){ADD_RULE, {0, 2, 0, 20}, 2}, after);
 }
 
 /* The diamond, stored when kind 3 was still disputed: nothing is edited before refresh has brought it over. */
@@ -439,19 +476,20 @@ static void try_stored_diamond(void) {
                           after[] = {1, 0, 2, 0, 3, 0, 260, 0};
     static const struct step refused[] =
         {
-            {INSPECT, {0, 0, 0}, HOUSE_WRONG_ENTRY + 6},
-            {ADD_RULE, {2, 0, 20}, HOUSE_REFUSED_UNSOUND},
-            {TAKE_RULE, {2, 0, 0}, HOUSE_REFUSED_UNSOUND},
-            {ADD_LINK, {3, 1, 0}, HOUSE_REFUSED_UNSOUND},
-            {ADD_LINK, {0, 3, 0}, HOUSE_REFUSED_UNSOUND},
-            {TAKE_LINK, {3, 2, 0}, HOUSE_REFUSED_UNSOUND},
-            {TAKE_LINK, {3, 0, 0}, HOUSE_REFUSED_UNSOUND},
-            {ADD_RULE, {4, 2, 0}, HOUSE_REFUSED_KIND},
-            {ADD_RULE, {2, 2, 0}, HOUSE_REFUSED_MARK},
-            {ADD_RULE, {2, 0, 0}, HOUSE_REFUSED_HANDLING},
+            {INSPECT, {0, 0, 0, 0}, HOUSE_WRONG_ENTRY + 6},
+            {ADD_RULE, {0, 2, 0, 20}, HOUSE_REFUSED_UNSOUND},
+            {TAKE_RULE, {0, 2, 0, 0}, HOUSE_REFUSED_UNSOUND},
+            {ADD_LINK, {0, 3, 1, 0}, HOUSE_REFUSED_UNSOUND},
+            {ADD_LINK, {0, 0, 3, 0}, HOUSE_REFUSED_UNSOUND},
+            {TAKE_LINK, {0, 3, 2, 0}, HOUSE_REFUSED_UNSOUND},
+            {TAKE_LINK, {0, 3, 0, 0}, HOUSE_REFUSED_UNSOUND},
+            {ADD_RULE, {HOUSE_CALLERS, 4, 2, 0}, HOUSE_REFUSED_CALLER},
+            {ADD_RULE, {0, 4, 2, 0}, HOUSE_REFUSED_KIND},
+            {ADD_RULE, {0, 2, 2, 0}, HOUSE_REFUSED_MARK},
+            {ADD_RULE, {0, 2, 0, 0}, HOUSE_REFUSED_HANDLING},
         },
-        refreshed[] = {{REFRESH, {0, 0, 0}, 1}, {INSPECT, {0, 0, 0}, HOUSE_SOUND}},
-        edited[] = {{ADD_RULE, {2, 0, 20}, 2}};
+        refreshed[] = {{REFRESH, {0, 0, 0, 0}, 1}, {INSPECT, {0, 0, 0, 0}, HOUSE_SOUND}},
+        edited[] = {{ADD_RULE, {0, 2, 0, 20}, 2}};
     struct book b = named_book(4, 2, links, MANY(links), rules, MANY(rules)), lent;
     hold_entries("the diamond", &b, now);
     try_book(&b);
@@ -472,12 +510,13 @@ static void try_stored_diamond(void) {
 static struct room {
     uint8_t links[129 * 129];
     uint16_t rules[129 * 65], entries[129 * 65];
-    uint32_t tally[1];
+    uint32_t tally[HOUSE_CALLERS];
 } room, other_room;
 
 /* Of a room its leading part, as long as the size asks. */
 static struct lent fitting(struct room *r, size_t n, size_t m) {
-    return (struct lent){(uint16_t)n, (uint16_t)m, r->links, r->rules, r->entries, r->tally, {n * n, n * m, n * m, 1}};
+    return (struct lent){
+        (uint16_t)n, (uint16_t)m, r->links, r->rules, r->entries, r->tally, {n * n, n * m, n * m, HOUSE_CALLERS}};
 }
 
 /* Every call refuses a size outside the range, though the tables fit it, and writes nothing. */
@@ -489,35 +528,30 @@ static void try_sizes_outside(void) {
         enum call call = i / 2 % CALLS;
         memset(&room, i % 2 == 0 ? 0 : 165, sizeof room);
         memcpy(&other_room, &room, sizeof room);
-        if (counted(call, &t, (struct arguments){0, 0, 20}) != HOUSE_REFUSED_BOOK ||
-            memcmp(&room, &other_room, sizeof room) != 0)
+        uint32_t given = counted(call, &t, i % 2 == 0 ? good : bad);
+        if (given != HOUSE_REFUSED_BOOK || memcmp(&room, &other_room, sizeof room) != 0)
             fail_at(calls[call].name, t.n, t.m);
     }
 }
 
-/* A book at the edges of the range, opened over other numbers, is all 0, and it has its last kind and mark. */
+/* A book at the edges of the range, opened over other numbers, is all 0, and it has its last kind, mark and caller. */
 static void try_sizes_at_the_edges(void) {
     static const struct pair sizes[] = {{1, 1}, {1, 64}, {128, 1}, {128, 64}};
     for (size_t i = 0; i < MANY(sizes); i++) {
         uint16_t n = sizes[i].one, m = sizes[i].other;
         struct lent t = fitting(&room, n, m);
+        struct arguments last = {HOUSE_CALLERS - 1, (uint16_t)(n - 1), (uint16_t)(m - 1), 65535};
         memset(&room, 165, sizeof room);
         memset(&other_room, 165, sizeof room);
         emptied(fitting(&other_room, n, m));
-        if (counted(OPEN, &t, (struct arguments){0, 0, 0}) != 0 || memcmp(&room, &other_room, sizeof room) != 0)
-            fail_at("open", n, m);
-        if (counted(ADD_RULE, &t, (struct arguments){(uint16_t)(n - 1), (uint16_t)(m - 1), 65535}) != 1 ||
-            room.entries[n * m - 1] != n || counted(INSPECT, &t, (struct arguments){0, 0, 0}) != HOUSE_SOUND)
-            fail_at("a rule of the last kind and mark", n, m);
+        if (counted(OPEN, &t, good) != 0 || memcmp(&room, &other_room, sizeof room) != 0) fail_at("open", n, m);
+        other_room.rules[n * m - 1] = last.z;
+        other_room.entries[n * m - 1] = n;
+        other_room.tally[last.caller] = 1;
+        if (counted(ADD_RULE, &t, last) != 1 || memcmp(&room, &other_room, sizeof room) != 0 ||
+            counted(INSPECT, &t, good) != HOUSE_SOUND)
+            fail_at("a rule of the last kind, mark and caller", n, m);
     }
-}
-
-static uint64_t state = 88172645463325252u;
-static unsigned long chance(void) {
-    state ^= state << 13;
-    state ^= state >> 7;
-    state ^= state << 17;
-    return (unsigned long)(state >> 20);
 }
 
 /* Every answer of every call came up often. */

@@ -43,7 +43,7 @@ static const uint8_t entries[2 * 4 * 2] = {
     3, 0, 0, 0, /* kind 2: 2 + 1, the rule of kind 2; none */
     4, 1, 0, 0, /* kind 3: 257 + 3 = 260 = 4 + 256 * 1, a dispute at kind 3; none */
 };
-static const uint8_t tally[4] = {7, 0, 0, 0}; /* seven edits were accepted: four links and three rules */
+static const uint8_t tally[LANE_TALLY_BYTES] = {7}; /* seven edits of caller 0 were accepted: four links, three rules */
 
 static const struct book session = {
     4, 2, links, rules, entries, tally, sizeof links, sizeof rules, sizeof entries, sizeof tally,

@@ -6,7 +6,7 @@
    too.
 
    THE BOOK. A book has n kinds (1 to 128, numbered from 0) and m marks (1 to 64, numbered from 0). It is four tables,
-   which are the caller's own memory:
+   which are the program's own memory:
 
      table    elements  their number  what it holds
      links    uint8_t   n * n         place child * n + parent holds 1 where the child is directly under the parent, and
@@ -15,7 +15,11 @@
                                       for no own rule
      entries  uint16_t  n * m         at the same places the lookup (below): 0 for none, O + 1 for the rule of kind O,
                                       257 + X for a dispute at kind X
-     tally    uint32_t  1             the accepted edits since opening; at 4294967295 it stays
+     tally    uint32_t  16            place c holds the accepted edits of caller c since opening; at 4294967295 it stays
+
+   CALLERS. A caller is whoever enters an edit, such as one of two suppliers. The house gives its callers numbers from
+   0 to 15, and each edit takes the number of the one who entered it, so that the tally has how many edits of each were
+   accepted. Every caller may edit all of the book. A house that does not tell them apart gives 0.
 
    THE LOOKUP. Kind P is above kind C if a chain of one or more links leads from C up to P. The lookup at a kind and a
    mark starts from the kinds with their own rule for the mark that are seen: the kind itself if it has one, otherwise
@@ -28,7 +32,7 @@
    and tally may hold anything. An opened book is sound, and each call leaves a sound book sound.
 
    LENDING. Each call takes n, m and the four tables, each as a pointer and then its number of elements, not of bytes.
-   It writes those tables that are not const, and nothing else of the caller's. Numbers are the machine's own, which on
+   It writes those tables that are not const, and nothing else of the program's. Numbers are the machine's own, which on
    x86-64 has the lowest byte first. A call takes each length at its word: that many elements must be there, at an
    address that is right for their type, and no two tables may overlap. A length that is not the book's is refused, so
    NULL with 0 is refused too.
@@ -45,7 +49,7 @@
    FOR LANES the same memory goes to lane_find as bytes, whose order lane.h asks for is that of x86-64:
 
      lane_find(n, m, links, n * n, (const uint8_t *)rules, 2 * n * m, (const uint8_t *)entries, 2 * n * m,
-               (const uint8_t *)tally, 4, kind, mark) */
+               (const uint8_t *)tally, LANE_TALLY_BYTES, kind, mark) */
 
 #ifndef HOUSE_H
 #define HOUSE_H
@@ -57,6 +61,9 @@
 #ifdef __cplusplus
 extern "C" {
 #endif
+
+/* The most callers: the tally has a number for each. */
+#define HOUSE_CALLERS 16
 
 /* ---- refusals */
 
@@ -75,7 +82,8 @@ enum {
     HOUSE_REFUSED_LINKED = 65536 + 7,      /* the link is there already */
     HOUSE_REFUSED_NOT_LINKED = 65536 + 8,  /* there is no such link */
     HOUSE_REFUSED_CYCLE = 65536 + 9,       /* the parent is the child, or the child is above the parent */
-    HOUSE_REFUSED_NO_DISPUTE = 65536 + 11  /* the entry is no dispute */
+    HOUSE_REFUSED_NO_DISPUTE = 65536 + 11, /* the entry is no dispute */
+    HOUSE_REFUSED_CALLER = 65536 + 13      /* there is no such caller: caller is above 15 */
 };
 
 /* Whether an answer, of any call, is a refusal. */
@@ -83,7 +91,7 @@ static inline bool house_is_refusal(uint32_t answer) {
     return answer / 65536 == 1;
 }
 
-/* The number of a refusal, 1 to 11. Other answers have none. */
+/* The number of a refusal, 1 to 13. Other answers have none. */
 static inline unsigned house_refusal(uint32_t answer) {
     return answer % 65536;
 }
@@ -97,29 +105,30 @@ uint32_t house_open(uint16_t n, uint16_t m, uint8_t *links, size_t links_len, ui
 
 /* ---- the four edits */
 
-/* An edit changes one place of rules or of links, makes every entry its lookup again and adds 1 to the tally. It
-   answers the number of places of entries that differ from before, 0 to n * m. 0 is no refusal: the change was made. */
+/* An edit changes one place of rules or of links, makes every entry its lookup again and adds 1 to its caller's number
+   in the tally, and to no other. It answers the number of places of entries that differ from before, 0 to n * m. 0 is
+   no refusal: the change was made. */
 
 /* The kind gets its own rule for the mark. A handling that is there is replaced, and the answer is then 0.
-   Refusals: 1, 2, 3, 4, 5. */
+   Refusals: 1, 13, 2, 3, 4, 5. */
 uint32_t house_add_rule(uint16_t n, uint16_t m, const uint8_t *links, size_t links_len, uint16_t *rules,
                         size_t rules_len, uint16_t *entries, size_t entries_len, uint32_t *tally, size_t tally_len,
-                        uint16_t kind, uint16_t mark, uint16_t handling);
+                        uint16_t caller, uint16_t kind, uint16_t mark, uint16_t handling);
 
-/* The kind loses its own rule for the mark. Refusals: 1, 2, 3, 5, 6. */
+/* The kind loses its own rule for the mark. Refusals: 1, 13, 2, 3, 5, 6. */
 uint32_t house_take_rule(uint16_t n, uint16_t m, const uint8_t *links, size_t links_len, uint16_t *rules,
                          size_t rules_len, uint16_t *entries, size_t entries_len, uint32_t *tally, size_t tally_len,
-                         uint16_t kind, uint16_t mark);
+                         uint16_t caller, uint16_t kind, uint16_t mark);
 
-/* The child comes to be directly under the parent. Refusals: 1, 2, 5, 7, 9. */
+/* The child comes to be directly under the parent. Refusals: 1, 13, 2, 5, 7, 9. */
 uint32_t house_add_link(uint16_t n, uint16_t m, uint8_t *links, size_t links_len, const uint16_t *rules,
                         size_t rules_len, uint16_t *entries, size_t entries_len, uint32_t *tally, size_t tally_len,
-                        uint16_t child, uint16_t parent);
+                        uint16_t caller, uint16_t child, uint16_t parent);
 
-/* The child is no longer directly under the parent. Refusals: 1, 2, 5, 8. */
+/* The child is no longer directly under the parent. Refusals: 1, 13, 2, 5, 8. */
 uint32_t house_take_link(uint16_t n, uint16_t m, uint8_t *links, size_t links_len, const uint16_t *rules,
                          size_t rules_len, uint16_t *entries, size_t entries_len, uint32_t *tally, size_t tally_len,
-                         uint16_t child, uint16_t parent);
+                         uint16_t caller, uint16_t child, uint16_t parent);
 
 /* ---- refresh */
 

@@ -1,4 +1,5 @@
-/* A house in small: it opens a book, edits it while a lane asks, sees a dispute, and mends a damaged copy.
+/* A house in small: it opens a book, edits it for two suppliers while a lane asks, sees a dispute, and mends a damaged
+   copy.
 
      cc -o house_example c/house_example.c target/staticlib/libhouse.a target/staticlib/liblane.a */
 
@@ -13,11 +14,14 @@ enum { N = 4, M = 2 };
 struct book {
     uint8_t links[N * N];
     uint16_t rules[N * M], entries[N * M];
-    uint32_t tally[1];
+    uint32_t tally[HOUSE_CALLERS];
 };
 
 /* What every call starts with: the size, and the four tables with their numbers of elements. */
-#define LENT(b) N, M, (b)->links, N * N, (b)->rules, N * M, (b)->entries, N * M, (b)->tally, 1
+#define LENT(b) N, M, (b)->links, N * N, (b)->rules, N * M, (b)->entries, N * M, (b)->tally, HOUSE_CALLERS
+
+/* The suppliers whose edits this house enters: the callers that it tells apart. */
+enum { ORCHARD = 0, IMPORTER = 1 };
 
 static const char *refusal_name(uint32_t answer) {
     switch (answer) {
@@ -41,6 +45,8 @@ static const char *refusal_name(uint32_t answer) {
         return "the kind would be above itself";
     case HOUSE_REFUSED_NO_DISPUTE:
         return "there is no dispute";
+    case HOUSE_REFUSED_CALLER:
+        return "there is no such caller";
     default:
         return "an answer of no call";
     }
@@ -106,23 +112,25 @@ static void inspect(const struct book *b) {
     }
 }
 
-/* The diamond: kinds 1 and 2 are under kind 0, and kind 3 is under both. */
+/* The diamond: kinds 1 and 2 are under kind 0, and kind 3 is under both. All of it is the orchard's. */
 static void link_kinds(struct book *book) {
-    tell("add link 1 under 0", house_add_link(LENT(book), 1, 0));
-    tell("add link 2 under 0", house_add_link(LENT(book), 2, 0));
-    tell("add link 3 under 1", house_add_link(LENT(book), 3, 1));
-    tell("add link 3 under 2", house_add_link(LENT(book), 3, 2));
-    tell("add link 0 under 3", house_add_link(LENT(book), 0, 3));
+    tell("add link 1 under 0", house_add_link(LENT(book), ORCHARD, 1, 0));
+    tell("add link 2 under 0", house_add_link(LENT(book), ORCHARD, 2, 0));
+    tell("add link 3 under 1", house_add_link(LENT(book), ORCHARD, 3, 1));
+    tell("add link 3 under 2", house_add_link(LENT(book), ORCHARD, 3, 2));
+    tell("add link 0 under 3", house_add_link(LENT(book), ORCHARD, 0, 3));
 }
 
 /* All kinds inherit from kind 0; then kind 1 hides that rule from kind 3, by the way over kind 2 too. Of kinds 1 and 2
-   neither is above the other, so their rules meet at kind 3, though both say 20. */
+   neither is above the other, so the rules of the two suppliers meet at kind 3, though both say 20. The last rule is
+   refused at first, as callers are numbered below HOUSE_CALLERS. */
 static void make_rules(struct book *book) {
-    tell("add rule 0, mark 0: 10", house_add_rule(LENT(book), 0, 0, 10));
+    tell("add rule 0, mark 0: 10", house_add_rule(LENT(book), ORCHARD, 0, 0, 10));
     ask(book, 3, 0);
-    tell("add rule 1, mark 0: 20", house_add_rule(LENT(book), 1, 0, 20));
+    tell("add rule 1, mark 0: 20", house_add_rule(LENT(book), ORCHARD, 1, 0, 20));
     ask(book, 3, 0);
-    tell("add rule 2, mark 0: 20", house_add_rule(LENT(book), 2, 0, 20));
+    tell("add rule 2, mark 0: 20", house_add_rule(LENT(book), HOUSE_CALLERS, 2, 0, 20));
+    tell("add rule 2, mark 0: 20", house_add_rule(LENT(book), IMPORTER, 2, 0, 20));
     ask(book, 3, 0);
     show_parties(book, 3, 0);
     inspect(book);
@@ -133,7 +141,7 @@ static void mend(struct book copy) {
     copy.entries[3 * M + 0] = 0 + 1;
     ask(&copy, 3, 0);
     inspect(&copy);
-    tell("take rule 2, mark 0", house_take_rule(LENT(&copy), 2, 0));
+    tell("take rule 2, mark 0", house_take_rule(LENT(&copy), IMPORTER, 2, 0));
     tell("refresh", house_refresh(LENT(&copy)));
     inspect(&copy);
     ask(&copy, 3, 0);
@@ -152,9 +160,10 @@ int main(void) {
     puts("a copy of it, the entry of kind 3 and mark 0 overwritten");
     mend(book);
     puts("the book itself");
-    tell("take link 3 under 2", house_take_link(LENT(&book), 3, 2));
+    tell("take link 3 under 2", house_take_link(LENT(&book), IMPORTER, 3, 2));
     ask(&book, 3, 0);
     ask(&book, 3, 1);
-    printf("edits accepted: %u\n", (unsigned)book.tally[0]);
+    printf("edits accepted: %u of the orchard, %u of the importer\n", (unsigned)book.tally[ORCHARD],
+           (unsigned)book.tally[IMPORTER]);
     return 0;
 }

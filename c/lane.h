@@ -11,7 +11,8 @@
                                    1 to 65535, or 0 for no own rule
      entries  2 * n * m            16-bit numbers, at the same places as rules: 0 for none, O + 1 for the rule of
                                    kind O, 257 + X for a dispute at kind X
-     tally    4                    one 32-bit number, the accepted edits since opening
+     tally    64                   32-bit numbers; place c, 0 to 15, holds the accepted edits of caller c since opening
+                                   (house.h says who a caller is)
 
    Numbers are spelled in bytes, the lowest byte first: the 16-bit number at place i is byte 2 * i plus 256 times byte
    2 * i + 1. A table may stand at any address. */
@@ -26,6 +27,9 @@
 #ifdef __cplusplus
 extern "C" {
 #endif
+
+/* The length of the tally, which is the same for every book. */
+#define LANE_TALLY_BYTES 64
 
 /* What the book says of a kind and a mark, in one number:
 

@@ -1,5 +1,5 @@
-/* Measures the stack that each call of a house takes, and fails past what house.h tells a caller to leave. The book has
-   128 kinds in one chain of links, the longest that there is, since calls go along the links by recursion. */
+/* Measures the stack that each call of a house takes, and fails past what house.h says to leave. The book has 128 kinds
+   in one chain of links, the longest that there is, since calls go along the links by recursion. */
 
 #define _DEFAULT_SOURCE /* for makecontext */
 
@@ -14,9 +14,10 @@ enum { N = 128, M = 64, LEFT = 40 * 1024, FILL = 165 };
 
 static uint8_t links[N * N];
 static uint16_t rules[N * M], entries[N * M];
-static uint32_t tally[1];
+static uint32_t tally[HOUSE_CALLERS];
 
-#define BOOK N, M, links, N * N, rules, N * M, entries, N * M, tally, 1
+#define BOOK N, M, links, N * N, rules, N * M, entries, N * M, tally, HOUSE_CALLERS
+#define EDIT BOOK, HOUSE_CALLERS - 1
 
 static uint32_t answer;
 
@@ -24,16 +25,16 @@ static void nothing(void) {
     answer = 0;
 }
 static void add_rule(void) {
-    answer = house_add_rule(BOOK, N - 1, 0, 20);
+    answer = house_add_rule(EDIT, N - 1, 0, 20);
 }
 static void take_rule(void) {
-    answer = house_take_rule(BOOK, N - 1, 0);
+    answer = house_take_rule(EDIT, N - 1, 0);
 }
 static void take_link(void) {
-    answer = house_take_link(BOOK, N - 2, N - 1);
+    answer = house_take_link(EDIT, N - 2, N - 1);
 }
 static void add_link(void) {
-    answer = house_add_link(BOOK, N - 2, N - 1);
+    answer = house_add_link(EDIT, N - 2, N - 1);
 }
 static void parties(void) {
     answer = house_parties(BOOK, 0, 0);

@@ -53,7 +53,8 @@ static void resize(struct table *table, size_t length) {
 /* A book of the right lengths, every number 0. */
 static struct book make_book(unsigned n, unsigned m) {
     size_t places = (size_t)n * m;
-    struct book book = {n, m, make_table((size_t)n * n), make_table(2 * places), make_table(2 * places), make_table(4)};
+    struct table tally = make_table(LANE_TALLY_BYTES);
+    struct book book = {n, m, make_table((size_t)n * n), make_table(2 * places), make_table(2 * places), tally};
     return book;
 }
 
@@ -137,7 +138,7 @@ static enum outcome size_fault(const struct book *book) {
     if (book->entries.length != n * m * 2) {
         return ENTRIES_LENGTH;
     }
-    return book->tally.length != 4 ? TALLY_LENGTH : NONE;
+    return book->tally.length != LANE_TALLY_BYTES ? TALLY_LENGTH : NONE;
 }
 
 static struct answer find(const struct book *book, unsigned kind, unsigned mark) {
@@ -392,19 +393,23 @@ static void expect_length(unsigned which, size_t length, uint32_t want) {
 }
 
 static void edges_of_lengths(void) {
-    static const size_t right[] = {16, 16, 16, 4};
+    static const size_t right[] = {16, 16, 16, LANE_TALLY_BYTES};
     for (unsigned which = 0; which < 4; which++) {
         expect_length(which, right[which], 0);
+        expect_length(which, right[which] - 4, 1);
         expect_length(which, right[which] - 2, 1);
         expect_length(which, right[which] - 1, 1);
         expect_length(which, right[which] + 1, 1);
         expect_length(which, right[which] + 2, 1);
+        expect_length(which, right[which] + 4, 1);
         expect_length(which, right[which] / 2, 1);
         expect_length(which, right[which] * 2, 1);
         expect_length(which, right[which] + 65536, 1);
         expect_length(which, 1, 1);
         expect_length(which, 0, 1);
     }
+    expect_length(3, 4, 1);                    /* one number, as every tally once was */
+    expect_length(3, LANE_TALLY_BYTES / 4, 1); /* as many bytes as it has numbers */
     struct book book = make_book(0, 0);
     resize(&book.tally, 0);
     expect("no tables, n and m 0", &book, 0, 0, 1);
@@ -515,7 +520,9 @@ static struct book sound_book(void) {
             put_number(&book.entries, place, looked_up(&book, order[i], mark));
         }
     }
-    put_number(&book.tally, 0, chance(65536));
+    for (size_t i = 0; i < book.tally.length; i++) {
+        book.tally.bytes[i] = (uint8_t)chance(256);
+    }
     return book;
 }
 

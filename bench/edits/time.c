@@ -1,6 +1,6 @@
-/* Times the four edits of the static library against the twin in C and against the base, the library as it was before request U6, in one run: on
-   books of three sizes where parents differ at few, some and many places. All do the same edits on books of their own, batch by batch in turns; the
-   answers and tables of the library and the twin are compared as they go, and the links and rules of the base. */
+/* Times the four edits of the static library against the twin in C and against the base, the library of another commit, in one run: on books of three
+   sizes where parents differ at few, some and many places. All do the same edits on books of their own, batch by batch in turns; the answers and tables
+   of the library and the twin are compared as they go, and the links, rules and tally of the base. */
 #define _POSIX_C_SOURCE 199309L /* for clock_gettime */
 #include "base.h"
 #include "house.h"
@@ -32,12 +32,12 @@ static void *zeros(size_t count, size_t size) {
     return p;
 }
 
-static struct book new_book(uint16_t n, uint16_t m) {
-    struct book b = {n, m, 0, 0, 0, 0, (size_t)n * n, (size_t)n * m, (size_t)n * m, 1};
+static struct book new_book(uint16_t n, uint16_t m, size_t tally_len) {
+    struct book b = {n, m, 0, 0, 0, 0, (size_t)n * n, (size_t)n * m, (size_t)n * m, tally_len};
     b.links = zeros(b.links_len, 1);
     b.rules = zeros(b.rules_len, 2);
     b.entries = zeros(b.entries_len, 2);
-    b.tally = zeros(1, 4);
+    b.tally = zeros(b.tally_len, 4);
     return b;
 }
 
@@ -48,46 +48,71 @@ static void free_book(const struct book *b) {
     free(b->tally);
 }
 
+static void clear_tally(const struct book *b) { memset(b->tally, 0, 4 * b->tally_len); }
+
+/* Copies a book that no edit was made on yet: both tallies are 0 then, also where their lengths differ. */
 static void copy(const struct book *to, const struct book *from) {
     memcpy(to->links, from->links, from->links_len);
     memcpy(to->rules, from->rules, 2 * from->rules_len);
     memcpy(to->entries, from->entries, 2 * from->entries_len);
-    to->tally[0] = from->tally[0];
+    clear_tally(to);
 }
 
 static void clear(const struct book *b) {
     memset(b->links, 0, b->links_len);
     memset(b->rules, 0, 2 * b->rules_len);
     memset(b->entries, 0, 2 * b->entries_len);
-    b->tally[0] = 0;
+    clear_tally(b);
+}
+
+/* The accepted edits of all callers. */
+static uint64_t accepted(const struct book *b) {
+    uint64_t sum = 0;
+    for (size_t i = 0; i < b->tally_len; i++) sum += b->tally[i];
+    return sum;
+}
+
+/* As many edits were accepted, of each caller where both tell callers apart. */
+static int tallied_alike(const struct book *a, const struct book *b) {
+    return a->tally_len == b->tally_len ? !memcmp(a->tally, b->tally, 4 * a->tally_len) : accepted(a) == accepted(b);
 }
 
 /* The same edits were accepted. */
 static int edited_alike(const struct book *a, const struct book *b) {
-    return !memcmp(a->links, b->links, a->links_len) && !memcmp(a->rules, b->rules, 2 * a->rules_len) && a->tally[0] == b->tally[0];
+    return !memcmp(a->links, b->links, a->links_len) && !memcmp(a->rules, b->rules, 2 * a->rules_len) && tallied_alike(a, b);
 }
 
 static int same(const struct book *a, const struct book *b) { return edited_alike(a, b) && !memcmp(a->entries, b->entries, 2 * a->entries_len); }
 
-/* One edit: a rule at (x, y) or a link from x to y, added with a value or taken. */
+/* One edit of a caller: a rule at (x, y) or a link from x to y, added with a value or taken. */
 struct edit {
-    uint16_t x, y, value;
+    uint16_t caller, x, y, value;
 };
 
 #define TABLES(b) (b)->n, (b)->m, (b)->links, (b)->links_len, (b)->rules, (b)->rules_len, (b)->entries, (b)->entries_len, (b)->tally, (b)->tally_len
+
+/* What an edit of the base starts with, and how long its tally is: one number and no caller, if it is from before there were callers. */
+#ifdef BASE_CALLERS
+#define BASE_START(b, e) TABLES(b), (e).caller
+enum { BASE_TALLY = BASE_CALLERS };
+#else
+#define BASE_START(b, e) TABLES(b)
+enum { BASE_TALLY = 1 };
+#endif
+
 typedef uint32_t call(const struct book *b, struct edit e);
-static uint32_t house_1(const struct book *b, struct edit e) { return house_add_rule(TABLES(b), e.x, e.y, e.value); }
-static uint32_t house_2(const struct book *b, struct edit e) { return house_take_rule(TABLES(b), e.x, e.y); }
-static uint32_t house_3(const struct book *b, struct edit e) { return house_add_link(TABLES(b), e.x, e.y); }
-static uint32_t house_4(const struct book *b, struct edit e) { return house_take_link(TABLES(b), e.x, e.y); }
-static uint32_t twin_1(const struct book *b, struct edit e) { return twin_add_rule(b, e.x, e.y, e.value); }
-static uint32_t twin_2(const struct book *b, struct edit e) { return twin_take_rule(b, e.x, e.y); }
-static uint32_t twin_3(const struct book *b, struct edit e) { return twin_add_link(b, e.x, e.y); }
-static uint32_t twin_4(const struct book *b, struct edit e) { return twin_take_link(b, e.x, e.y); }
-static uint32_t base_1(const struct book *b, struct edit e) { return base_add_rule(TABLES(b), e.x, e.y, e.value); }
-static uint32_t base_2(const struct book *b, struct edit e) { return base_take_rule(TABLES(b), e.x, e.y); }
-static uint32_t base_3(const struct book *b, struct edit e) { return base_add_link(TABLES(b), e.x, e.y); }
-static uint32_t base_4(const struct book *b, struct edit e) { return base_take_link(TABLES(b), e.x, e.y); }
+static uint32_t house_1(const struct book *b, struct edit e) { return house_add_rule(TABLES(b), e.caller, e.x, e.y, e.value); }
+static uint32_t house_2(const struct book *b, struct edit e) { return house_take_rule(TABLES(b), e.caller, e.x, e.y); }
+static uint32_t house_3(const struct book *b, struct edit e) { return house_add_link(TABLES(b), e.caller, e.x, e.y); }
+static uint32_t house_4(const struct book *b, struct edit e) { return house_take_link(TABLES(b), e.caller, e.x, e.y); }
+static uint32_t twin_1(const struct book *b, struct edit e) { return twin_add_rule(b, e.caller, e.x, e.y, e.value); }
+static uint32_t twin_2(const struct book *b, struct edit e) { return twin_take_rule(b, e.caller, e.x, e.y); }
+static uint32_t twin_3(const struct book *b, struct edit e) { return twin_add_link(b, e.caller, e.x, e.y); }
+static uint32_t twin_4(const struct book *b, struct edit e) { return twin_take_link(b, e.caller, e.x, e.y); }
+static uint32_t base_1(const struct book *b, struct edit e) { return base_add_rule(BASE_START(b, e), e.x, e.y, e.value); }
+static uint32_t base_2(const struct book *b, struct edit e) { return base_take_rule(BASE_START(b, e), e.x, e.y); }
+static uint32_t base_3(const struct book *b, struct edit e) { return base_add_link(BASE_START(b, e), e.x, e.y); }
+static uint32_t base_4(const struct book *b, struct edit e) { return base_take_link(BASE_START(b, e), e.x, e.y); }
 static call *const calls[SIDES][4] = {{house_1, house_2, house_3, house_4}, {twin_1, twin_2, twin_3, twin_4}, {base_1, base_2, base_3, base_4}};
 static const char *const name[4] = {"add rule", "take rule", "add link", "take link"};
 
@@ -148,12 +173,12 @@ static double renew(const struct book *books, const struct shape *s) {
     return share(&books[LIBRARY]);
 }
 
-/* Rules at any places and links from any kind to a lower one, so that no link closes a cycle. */
+/* Rules at any places and links from any kind to a lower one, so that no link closes a cycle, of any callers. */
 static void choose(uint16_t n, uint16_t m, struct edit *rules, struct edit *links) {
     for (int i = 0; i < PLACES; i++) {
-        uint16_t child = (uint16_t)(1 + random_below((uint32_t)n - 1u));
-        rules[i] = (struct edit){(uint16_t)random_below(n), (uint16_t)random_below(m), (uint16_t)(1 + random_below(65535))};
-        links[i] = (struct edit){child, (uint16_t)random_below(child), 1};
+        uint16_t caller = (uint16_t)random_below(CALLERS), child = (uint16_t)(1 + random_below((uint32_t)n - 1u));
+        rules[i] = (struct edit){caller, (uint16_t)random_below(n), (uint16_t)random_below(m), (uint16_t)(1 + random_below(65535))};
+        links[i] = (struct edit){caller, child, (uint16_t)random_below(child), 1};
     }
 }
 
@@ -163,7 +188,7 @@ static int run(const struct shape *s) {
     static double times[SIDES][4][REPEATS];
     double differ = 0;
     uint64_t sum[SIDES] = {0};
-    for (int side = 0; side < SIDES; side++) books[side] = new_book(s->n, s->m);
+    for (int side = 0; side < SIDES; side++) books[side] = new_book(s->n, s->m, side == BASE ? BASE_TALLY : CALLERS);
     memset(times, 0, sizeof times);
     for (int r = 0; r < REPEATS; r++)
         for (int round = 0; round < ROUNDS; round++) {

@@ -40,7 +40,7 @@ static inline void drop_first(struct set *s) {
 static int shaped(const struct book *b) {
     size_t places = (size_t)b->n * b->m;
     return b->n >= 1 && b->n <= MOST && b->m >= 1 && b->m <= MARKS && b->links_len == (size_t)b->n * b->n && b->rules_len == places &&
-           b->entries_len == places && b->tally_len == 1;
+           b->entries_len == places && b->tally_len == CALLERS;
 }
 
 /* Eight bytes, each 0 or 1, as eight bits: byte i comes to bit 56 + i of the product. */
@@ -186,8 +186,8 @@ static int sound(const struct book *b, struct view *v) {
     return wrong == 0;
 }
 
-static void add_to_tally(const struct book *b) {
-    if (b->tally[0] < UINT32_MAX) b->tally[0]++;
+static void add_to_tally(const struct book *b, size_t caller) {
+    if (b->tally[caller] < UINT32_MAX) b->tally[caller]++;
 }
 
 /* One entry worked out and written, as a row is. Whether it was another. */
@@ -219,7 +219,7 @@ static uint32_t settle_row(const struct book *b, const struct view *v, size_t c)
 }
 
 /* The edit reaches the kind and those below it, as far as the next own rule. Places are gone through from its own down, so parents come first. */
-static uint32_t set_rule(const struct book *b, struct view *v, size_t kind, size_t mark, uint16_t handling) {
+static uint32_t set_rule(const struct book *b, struct view *v, size_t caller, size_t kind, size_t mark, uint16_t handling) {
     struct set reached = only(kind), here = only(v->place[kind]), *ruled = &v->ruled[mark];
     b->rules[kind * b->m + mark] = handling;
     *ruled = handling ? either(*ruled, here) : without(*ruled, here);
@@ -230,12 +230,12 @@ static uint32_t set_rule(const struct book *b, struct view *v, size_t kind, size
         reached = either(reached, only(c));
         count += settle(b, v, c, mark);
     }
-    add_to_tally(b);
+    add_to_tally(b, caller);
     return count;
 }
 
 /* The edit reaches the child and all below it. The order is made anew only if the new parent stands before the child. */
-static uint32_t set_link(const struct book *b, struct view *v, size_t child, size_t parent, uint8_t byte) {
+static uint32_t set_link(const struct book *b, struct view *v, size_t caller, size_t child, size_t parent, uint8_t byte) {
     struct set *parents = &v->parents[child];
     b->links[child * b->n + parent] = byte;
     *parents = byte ? either(*parents, only(parent)) : without(*parents, only(parent));
@@ -252,45 +252,49 @@ static uint32_t set_link(const struct book *b, struct view *v, size_t child, siz
         for (struct set up = v->parents[c]; !empty(up); drop_first(&up)) v->reach[c] = either(v->reach[c], v->reach[first(up)]);
         count += settle_row(b, v, c);
     }
-    add_to_tally(b);
+    add_to_tally(b, caller);
     return count;
 }
 
-uint32_t twin_add_rule(const struct book *b, uint16_t kind, uint16_t mark, uint16_t handling) {
+uint32_t twin_add_rule(const struct book *b, uint16_t caller, uint16_t kind, uint16_t mark, uint16_t handling) {
     struct view v;
     if (!shaped(b)) return REFUSED + 1;
+    if (caller >= CALLERS) return REFUSED + 13;
     if (kind >= b->n) return REFUSED + 2;
     if (mark >= b->m) return REFUSED + 3;
     if (handling == 0) return REFUSED + 4;
     if (!sound(b, &v)) return REFUSED + 5;
-    return set_rule(b, &v, kind, mark, handling);
+    return set_rule(b, &v, caller, kind, mark, handling);
 }
 
-uint32_t twin_take_rule(const struct book *b, uint16_t kind, uint16_t mark) {
+uint32_t twin_take_rule(const struct book *b, uint16_t caller, uint16_t kind, uint16_t mark) {
     struct view v;
     if (!shaped(b)) return REFUSED + 1;
+    if (caller >= CALLERS) return REFUSED + 13;
     if (kind >= b->n) return REFUSED + 2;
     if (mark >= b->m) return REFUSED + 3;
     if (!sound(b, &v)) return REFUSED + 5;
     if (b->rules[(size_t)kind * b->m + mark] == 0) return REFUSED + 6;
-    return set_rule(b, &v, kind, mark, 0);
+    return set_rule(b, &v, caller, kind, mark, 0);
 }
 
-uint32_t twin_add_link(const struct book *b, uint16_t child, uint16_t parent) {
+uint32_t twin_add_link(const struct book *b, uint16_t caller, uint16_t child, uint16_t parent) {
     struct view v;
     if (!shaped(b)) return REFUSED + 1;
+    if (caller >= CALLERS) return REFUSED + 13;
     if (child >= b->n || parent >= b->n) return REFUSED + 2;
     if (!sound(b, &v)) return REFUSED + 5;
     if (has(v.parents[child], parent)) return REFUSED + 7;
     if (has(v.reach[parent], v.place[child])) return REFUSED + 9;
-    return set_link(b, &v, child, parent, 1);
+    return set_link(b, &v, caller, child, parent, 1);
 }
 
-uint32_t twin_take_link(const struct book *b, uint16_t child, uint16_t parent) {
+uint32_t twin_take_link(const struct book *b, uint16_t caller, uint16_t child, uint16_t parent) {
     struct view v;
     if (!shaped(b)) return REFUSED + 1;
+    if (caller >= CALLERS) return REFUSED + 13;
     if (child >= b->n || parent >= b->n) return REFUSED + 2;
     if (!sound(b, &v)) return REFUSED + 5;
     if (!has(v.parents[child], parent)) return REFUSED + 8;
-    return set_link(b, &v, child, parent, 0);
+    return set_link(b, &v, caller, child, parent, 0);
 }

@@ -4,6 +4,9 @@
 #include <stddef.h>
 #include <stdint.h>
 
+/* The most callers: the tally has a number for each. */
+enum { CALLERS = 16 };
+
 /* A book: n kinds, m marks and its four tables. */
 struct book {
     uint16_t n, m;
@@ -14,8 +17,8 @@ struct book {
 };
 
 /* The count of entries that differ, or 65536 + the refusal's number. */
-uint32_t twin_add_rule(const struct book *b, uint16_t kind, uint16_t mark, uint16_t handling);
-uint32_t twin_take_rule(const struct book *b, uint16_t kind, uint16_t mark);
-uint32_t twin_add_link(const struct book *b, uint16_t child, uint16_t parent);
-uint32_t twin_take_link(const struct book *b, uint16_t child, uint16_t parent);
+uint32_t twin_add_rule(const struct book *b, uint16_t caller, uint16_t kind, uint16_t mark, uint16_t handling);
+uint32_t twin_take_rule(const struct book *b, uint16_t caller, uint16_t kind, uint16_t mark);
+uint32_t twin_add_link(const struct book *b, uint16_t caller, uint16_t child, uint16_t parent);
+uint32_t twin_take_link(const struct book *b, uint16_t caller, uint16_t child, uint16_t parent);
 #endif

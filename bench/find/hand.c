@@ -14,7 +14,7 @@ uint32_t FIND(uint16_t n, uint16_t m, const uint8_t *links, size_t links_len, co
     (void)tally;
     size_t places = (size_t)n * m;
     if (n < 1 || n > 128 || m < 1 || m > 64 || links_len != (size_t)n * n || rules_len != 2 * places ||
-        entries_len != 2 * places || tally_len != 4) {
+        entries_len != 2 * places || tally_len != LANE_TALLY_BYTES) {
         return LANE_REFUSED_BOOK;
     }
     if (kind >= n) {

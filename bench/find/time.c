@@ -39,7 +39,7 @@ static find *const volatile finds[] = {
 static const char *const names[] = {"lane", "gcc", "clang"};
 enum { FINDS = sizeof finds / sizeof *finds };
 
-static uint8_t links[KINDS * KINDS], rules[2 * PLACES], entries[2 * PLACES], tally[4];
+static uint8_t links[KINDS * KINDS], rules[2 * PLACES], entries[2 * PLACES], tally[LANE_TALLY_BYTES];
 static uint16_t kinds[QUESTIONS], marks[QUESTIONS];
 
 static uint32_t chance(uint32_t below) {

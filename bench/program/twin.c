@@ -7,8 +7,11 @@ enum { KINDS = 128, MARKS = 64, LONGEST = 64, ANSWER = 32, BLOCK = 65536, REFUSE
 
 static uint8_t links[KINDS * KINDS];
 static uint16_t rules[KINDS * MARKS], entries[KINDS * MARKS];
-static uint32_t tally[1];
-static struct book book = {0, 0, links, rules, entries, tally, 0, 0, 0, 1};
+static uint32_t tally[CALLERS];
+static struct book book = {0, 0, links, rules, entries, tally, 0, 0, 0, CALLERS};
+
+/* Whoever writes the text is one caller. */
+enum { CALLER = 0 };
 
 static char in[BLOCK], out[BLOCK], carry[LONGEST + 1];
 static size_t carried, waiting;
@@ -79,7 +82,7 @@ static void open_book(uint16_t n, uint16_t m) {
     memset(links, 0, book.links_len);
     memset(rules, 0, book.rules_len * sizeof *rules);
     memset(entries, 0, book.entries_len * sizeof *entries);
-    tally[0] = 0;
+    memset(tally, 0, sizeof tally);
     SAY_TWO("(opened ", n, m);
 }
 
@@ -100,10 +103,10 @@ static int answer(const char *line, size_t length) {
     if (BLOCK - waiting < ANSWER && !flush()) return 0;
     if (length > LONGEST) SAY_ONE("(refused ", 12);
     else if (is(line, end, "(find ", 2, ")", v)) find(v[0], v[1]);
-    else if (is(line, end, "(add (rule ", 3, "))", v)) say_edited(twin_add_rule(&book, v[0], v[1], v[2]));
-    else if (is(line, end, "(take (rule ", 2, "))", v)) say_edited(twin_take_rule(&book, v[0], v[1]));
-    else if (is(line, end, "(add (under ", 2, "))", v)) say_edited(twin_add_link(&book, v[0], v[1]));
-    else if (is(line, end, "(take (under ", 2, "))", v)) say_edited(twin_take_link(&book, v[0], v[1]));
+    else if (is(line, end, "(add (rule ", 3, "))", v)) say_edited(twin_add_rule(&book, CALLER, v[0], v[1], v[2]));
+    else if (is(line, end, "(take (rule ", 2, "))", v)) say_edited(twin_take_rule(&book, CALLER, v[0], v[1]));
+    else if (is(line, end, "(add (under ", 2, "))", v)) say_edited(twin_add_link(&book, CALLER, v[0], v[1]));
+    else if (is(line, end, "(take (under ", 2, "))", v)) say_edited(twin_take_link(&book, CALLER, v[0], v[1]));
     else if (is(line, end, "(open ", 2, ")", v)) open_book(v[0], v[1]);
     else SAY_ONE("(refused ", 12);
     return 1;

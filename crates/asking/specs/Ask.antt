@@ -1,9 +1,10 @@
 -- The refusals that calls begin with, by what the checked constructors give.
---     askedKind     refusals 1 and 2, in this order, of a call on a kind
---     asked         .. and 3, of a call on a kind and a mark
---     askedLink     .. and 2 of the parent, of a call on a child and a parent
---     checked, checkedLink     the same on a book's tables
---     Within        a kind and a mark of a book whose rules and entries have their lengths
+--     askedAt        refusals 2 and 3, in this order, of a call on a kind and a mark
+--     asked          .. after refusal 1
+--     askedLink      refusal 2 of a call on a child and a parent
+--     askedCaller    refusals 1 and 13, in this order, of an edit
+--     checked, checkedCaller    the same on a book's tables
+--     Within         a kind and a mark of a book whose rules and entries have their lengths
 -- Assumes nothing.
 use mathlib.Core.Bool.{Bool, true, false}
 use mathlib.Core.List.{List}
@@ -13,32 +14,38 @@ use Rattle.inheritance.specs.declared.Mark.{Mark}
 use Rattle.inheritance.specs.declared.CheckedKind.{CheckedKind}
 use Rattle.inheritance.specs.declared.CheckedMark.{CheckedMark}
 use Rattle.inheritance.specs.Checked.{kindBelow, markBelow}
+use Rattle.tables.specs.declared.CheckedCaller.{CheckedCaller}
 use Rattle.tables.specs.declared.Refusal.{Refusal}
-use Rattle.asking.specs.declared.KindAsked.{KindAsked}
 use Rattle.asking.specs.declared.Asked.{Asked}
 use Rattle.asking.specs.declared.LinkAsked.{LinkAsked}
+use Rattle.asking.specs.declared.CallerAsked.{CallerAsked}
+use Rattle.tables.specs.Caller.{callerBelow}
 use Rattle.tables.specs.Tables.{Tables, shaped, Sized}
 
-abbrev pub askedKind : (shaped : Bool) → CheckedKind → KindAsked
-askedKind false k = KindAsked.Refused Refusal.Shape
-askedKind true CheckedKind.Outside = KindAsked.Refused Refusal.Kind
-askedKind true (CheckedKind.Kind k) = KindAsked.Kind k
+abbrev pub askedAt : CheckedKind → CheckedMark → Asked
+askedAt CheckedKind.Outside j = Asked.Refused Refusal.Kind
+askedAt (CheckedKind.Kind k) CheckedMark.Outside = Asked.Refused Refusal.Mark
+askedAt (CheckedKind.Kind k) (CheckedMark.Mark j) = Asked.At k j
 
-abbrev pub asked : KindAsked → CheckedMark → Asked
-asked (KindAsked.Refused why) j = Asked.Refused why
-asked (KindAsked.Kind k) CheckedMark.Outside = Asked.Refused Refusal.Mark
-asked (KindAsked.Kind k) (CheckedMark.Mark j) = Asked.At k j
+abbrev pub asked : (shaped : Bool) → Asked → Asked
+asked false next = Asked.Refused Refusal.Shape
+asked true next = next
 
-abbrev pub askedLink : (child : KindAsked) → (parent : CheckedKind) → LinkAsked
-askedLink (KindAsked.Refused why) p = LinkAsked.Refused why
-askedLink (KindAsked.Kind c) CheckedKind.Outside = LinkAsked.Refused Refusal.Kind
-askedLink (KindAsked.Kind c) (CheckedKind.Kind p) = LinkAsked.Between c p
+abbrev pub askedLink : (child parent : CheckedKind) → LinkAsked
+askedLink CheckedKind.Outside p = LinkAsked.Refused Refusal.Kind
+askedLink (CheckedKind.Kind c) CheckedKind.Outside = LinkAsked.Refused Refusal.Kind
+askedLink (CheckedKind.Kind c) (CheckedKind.Kind p) = LinkAsked.Between c p
+
+abbrev pub askedCaller : (shaped : Bool) → CheckedCaller → CallerAsked
+askedCaller false c = CallerAsked.Refused Refusal.Shape
+askedCaller true CheckedCaller.Outside = CallerAsked.Refused Refusal.Caller
+askedCaller true (CheckedCaller.Caller c) = CallerAsked.By c
 
 abbrev pub checked : (n m : ℕ) → Tables → (kind mark : ℕ) → Asked
-checked n m t kind mark = asked (askedKind (shaped n m t) (kindBelow n kind)) (markBelow m mark)
+checked n m t kind mark = asked (shaped n m t) (askedAt (kindBelow n kind) (markBelow m mark))
 
-abbrev pub checkedLink : (n m : ℕ) → Tables → (child parent : ℕ) → LinkAsked
-checkedLink n m t child parent = askedLink (askedKind (shaped n m t) (kindBelow n child)) (kindBelow n parent)
+abbrev pub checkedCaller : (n m : ℕ) → Tables → (caller : ℕ) → CallerAsked
+checkedCaller n m t caller = askedCaller (shaped n m t) (callerBelow caller)
 
 pub record Within (n m : ℕ) (rules entries : List ℕ) (k : Kind) (j : Mark) : Type 0 where
   pub sizes : Sized n m rules entries

@@ -1,15 +1,17 @@
-// The checks that the calls begin with: refusals 1, 2 and 3.
+// The checks that the calls begin with: refusals 1, 13, 2 and 3.
 use inheritance::CheckedKind;
 use inheritance::CheckedMark;
 use inheritance::Kind;
 use inheritance::Mark;
+use tables::Caller;
+use tables::CheckedCaller;
 use tables::Refusal;
 use tables::TALLIES;
 ghost use mathlib.Core.Path.{_≡_};
 ghost use Rattle.inheritance.specs.Checked.{kindBelow, markBelow};
 ghost use Rattle.tables.specs.Controller.{shaped-bytes};
 ghost use Rattle.tables.specs.Tables.{lent, sized, shaped};
-ghost use Rattle.asking.specs.Ask.{askedKind, asked, checked, checkedLink};
+ghost use Rattle.asking.specs.Ask.{askedAt, asked, askedLink, checked, checkedCaller};
 
 // A kind and a mark of the book that a call is put to, or its refusal.
 pub enum Asked {
@@ -17,15 +19,15 @@ pub enum Asked {
     Refused(Refusal),
 }
 
-// A kind of the book that a call is put to, or its refusal.
-enum KindAsked {
-    Kind(Kind),
-    Refused(Refusal),
-}
-
 // A child and a parent of the book that an edit is put to, or its refusal.
 pub enum LinkAsked {
     Between(Kind, Kind),
+    Refused(Refusal),
+}
+
+// The caller of an edit, or its refusal.
+pub enum CallerAsked {
+    By(Caller),
     Refused(Refusal),
 }
 
@@ -86,29 +88,27 @@ pub fn shape_bytes(n: u16, m: u16, links: &[u8], rules: &[u8], entries: &[u8], t
     )
 }
 
-// Refusals 1 and 2, in this order: shaped says whether the tables have their lengths, and kind is any number.
-fn ask_kind(shaped: bool, n: u16, kind: Kind) -> KindAsked
-    ensures { λ r. ⌜ r ≡ askedKind shaped (kindBelow n (kind .0)) ⌝ }
+// Refusals 2 and 3, in this order, of a call on a kind and a mark.
+pub fn ask_at(n: u16, m: u16, kind: Kind, mark: Mark) -> Asked
+    ensures { λ r. ⌜ r ≡ askedAt (kindBelow n (kind .0)) (markBelow m (mark .0)) ⌝ }
 {
-    if !shaped {
-        return KindAsked::Refused(Refusal::Shape);
-    }
     match Kind::new(kind.0, n) {
-        CheckedKind::Kind(k) => KindAsked::Kind(k),
-        CheckedKind::Outside => KindAsked::Refused(Refusal::Kind),
-    }
-}
-
-// Refusals 1, 2 and 3, in this order, of a call on a kind and a mark, where shaped says whether the tables have their lengths.
-pub fn ask(shaped: bool, n: u16, m: u16, kind: Kind, mark: Mark) -> Asked
-    ensures { λ r. ⌜ r ≡ asked (askedKind shaped (kindBelow n (kind .0))) (markBelow m (mark .0)) ⌝ }
-{
-    match ask_kind(shaped, n, kind) {
-        KindAsked::Refused(why) => Asked::Refused(why),
-        KindAsked::Kind(k) => match Mark::new(mark.0, m) {
+        CheckedKind::Kind(k) => match Mark::new(mark.0, m) {
             CheckedMark::Mark(j) => Asked::At(k, j),
             CheckedMark::Outside => Asked::Refused(Refusal::Mark),
         },
+        CheckedKind::Outside => Asked::Refused(Refusal::Kind),
+    }
+}
+
+// The same after refusal 1, where shaped says whether the tables have their lengths.
+pub fn ask(shaped: bool, n: u16, m: u16, kind: Kind, mark: Mark) -> Asked
+    ensures { λ r. ⌜ r ≡ asked shaped (askedAt (kindBelow n (kind .0)) (markBelow m (mark .0))) ⌝ }
+{
+    if shaped {
+        ask_at(n, m, kind, mark)
+    } else {
+        Asked::Refused(Refusal::Shape)
     }
 }
 
@@ -128,24 +128,37 @@ pub fn ask_place(
     ask(shape(n, m, links, rules, entries, tally), n, m, kind, mark)
 }
 
-// Refusals 1 and 2, in this order, of a call on a child and a parent.
-pub fn ask_link(
+// Refusal 2 of an edit of a link, of the child and of the parent.
+pub fn ask_link(n: u16, child: Kind, parent: Kind) -> LinkAsked
+    ensures { λ r. ⌜ r ≡ askedLink (kindBelow n (child .0)) (kindBelow n (parent .0)) ⌝ }
+{
+    match Kind::new(child.0, n) {
+        CheckedKind::Kind(c) => match Kind::new(parent.0, n) {
+            CheckedKind::Kind(p) => LinkAsked::Between(c, p),
+            CheckedKind::Outside => LinkAsked::Refused(Refusal::Kind),
+        },
+        CheckedKind::Outside => LinkAsked::Refused(Refusal::Kind),
+    }
+}
+
+// Refusals 1 and 13, in this order, with which every edit begins.
+pub fn ask_caller(
     n: u16,
     m: u16,
     links: &[u8],
     rules: &[u16],
     entries: &[u16],
     tally: &[u32],
-    child: Kind,
-    parent: Kind,
-) -> LinkAsked
-    ensures { λ r. ⌜ r ≡ checkedLink n m (lent (now (links .entry)) (now (rules .entry)) (now (entries .entry)) (now (tally .entry))) (child .0) (parent .0) ⌝ }
+    caller: Caller,
+) -> CallerAsked
+    ensures { λ r. ⌜ r ≡ checkedCaller n m (lent (now (links .entry)) (now (rules .entry)) (now (entries .entry)) (now (tally .entry))) (caller .0) ⌝ }
 {
-    match ask_kind(shape(n, m, links, rules, entries, tally), n, child) {
-        KindAsked::Refused(why) => LinkAsked::Refused(why),
-        KindAsked::Kind(c) => match Kind::new(parent.0, n) {
-            CheckedKind::Kind(p) => LinkAsked::Between(c, p),
-            CheckedKind::Outside => LinkAsked::Refused(Refusal::Kind),
-        },
+    let shaped = shape(n, m, links, rules, entries, tally);
+    if !shaped {
+        return CallerAsked::Refused(Refusal::Shape);
+    }
+    match Caller::new(caller.0) {
+        CheckedCaller::Caller(by) => CallerAsked::By(by),
+        CheckedCaller::Outside => CallerAsked::Refused(Refusal::Caller),
     }
 }

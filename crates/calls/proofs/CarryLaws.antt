@@ -27,9 +27,9 @@ module _ (n m : ℕ) (t : Tables) where
     open-carried done = carried openBook (λ k j e. let z : _≡_ {A = ℕ} 0 1 = cc in omega arith) (ap (told opening) done)
 
     module _ {reply : Reply ℕ} where
-      pub edit-carried : (e : Edit) → leaves reply t′ ≡ editOutcome n m t e → Carried (call (edit e)) t (editing reply) t′
+      pub edit-carried : (by : ℕ) (e : Edit) → leaves reply t′ ≡ editOutcome n m t by e → Carried (call (edit by e)) t (editing reply) t′
       unfolding answerTo
-      edit-carried e done = carried (edit e) (λ k j e. let z : _≡_ {A = ℕ} 0 1 = cc in omega arith) (ap (told editing) done)
+      edit-carried by e done = carried (edit by e) (λ k j e. let z : _≡_ {A = ℕ} 0 1 = cc in omega arith) (ap (told editing) done)
 
       pub refresh-carried : leaves reply t′ ≡ calls.refresh n m t → Carried (call refresh) t (editing reply) t′
       unfolding answerTo

@@ -31,7 +31,9 @@ pub fn carry_out(
     let request = call.request;
     match request {
         Request::Open => Answer::Opened(open(n, m, links, rules, entries, tally)),
-        Request::Edit(edit) => Answer::Edited(make(edit, n, m, links, rules, entries, tally)),
+        Request::Edit(caller, edit) => {
+            Answer::Edited(make(caller, edit, n, m, links, rules, entries, tally))
+        }
         Request::Find(kind, mark) => {
             Answer::Found(find(n, m, links, rules, entries, tally, kind, mark))
         }

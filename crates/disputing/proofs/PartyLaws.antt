@@ -16,11 +16,11 @@ use Rattle.inheritance.specs.declared.CheckedMark.{CheckedMark}
 use Rattle.inheritance.specs.Checked.{kind, mark}
 use Rattle.tables.specs.declared.Refusal.{Refusal}
 use Rattle.asking.specs.declared.Asked.{Asked}
-use Rattle.asking.specs.Ask.{askedKind, asked, checked}
+use Rattle.asking.specs.Ask.{askedAt, asked, checked}
 use Rattle.tables.specs.Calls.{Check, TwoParties, PartiesGive}
 use Rattle.tables.specs.Reply.{Reply, refused, TwoKinds, refusalNumber}
 use Rattle.tables.specs.Tables.{Tables, shaped, sound}
-use Rattle.asking.proofs.AskLaws.{asked-at}
+use Rattle.asking.proofs.AskLaws.{let-through, asked-at}
 use Rattle.disputing.specs.Parties.{Disputing}
 
 -- ---- the checks
@@ -38,9 +38,10 @@ module _ (n m : ℕ) (t : Tables) (c i : ℕ) where
   pub parties-at : (reply : Reply TwoKinds) {k : Kind} {j : Mark} → checked n m t c i ≡ Asked.At k j
       → Disputing n m t (k .0) (j .0) reply → PartiesGive n m t c i reply
   parties-at reply {k} {j} e x =
-      let p = asked-at (shaped n m t) n m c i e in
+      let (fits, at) = let-through (shaped n m t) e in
+      let p = asked-at n m c i at in
       let x′ : Disputing n m t c i reply = rw (p .the-kind, p .the-mark) at x in
-      pass 1 reply _ (shaped n m t) (p .is-shaped)
+      pass 1 reply _ (shaped n m t) fits
       (pass 2 reply _ (ltb c n) (lt-ltb c n (p .kind-below))
       (pass 3 reply (Disputing n m t c i reply) (ltb i m) (lt-ltb i m (p .mark-below)) x′))
 
@@ -49,7 +50,7 @@ module _ (n m : ℕ) (t : Tables) (c i : ℕ) where
   parties-refused {why} e = go (shaped n m t) (ltb c n) (ltb i m) (Disputing n m t c i (refused (refusalNumber why))) e
     where
       go : (s p q : Bool) (next : Type 0)
-          → asked (askedKind s (cond p (CheckedKind.Kind (kind c)) CheckedKind.Outside)) (cond q (CheckedMark.Mark (mark i)) CheckedMark.Outside) ≡ Asked.Refused why
+          → asked s (askedAt (cond p (CheckedKind.Kind (kind c)) CheckedKind.Outside) (cond q (CheckedMark.Mark (mark i)) CheckedMark.Outside)) ≡ Asked.Refused why
           → let reply : Reply TwoKinds = refused (refusalNumber why) in
           Check 1 s reply (Check 2 p reply (Check 3 q reply next))
       go false p q next e = let w : Refusal.Shape ≡ why = cc in rw (← w) refl

@@ -1,4 +1,5 @@
 // The four edits, and one function for any of them given as a value.
+use tables::Caller;
 use tables::Edit;
 use tables::Edited;
 ghost use mathlib.Core.Path.{_≡_};
@@ -11,8 +12,9 @@ pub use link_edits::take_link;
 pub use rule_edits::add_rule;
 pub use rule_edits::take_rule;
 
-// The edit is made on the tables.
+// The caller's edit is made on the tables.
 pub fn make(
+    caller: Caller,
     edit: Edit,
     n: u16,
     m: u16,
@@ -22,18 +24,39 @@ pub fn make(
     tally: &mut [u32],
 ) -> Edited
     ensures { λ r. ⌜ leaves (edited r) (lent (now (links .exit)) (now (rules .exit)) (now (entries .exit)) (now (tally .exit)))
-        ≡ editOutcome n m (lent (now (links .entry)) (now (rules .entry)) (now (entries .entry)) (now (tally .entry))) (editOf edit) ⌝ }
+        ≡ editOutcome n m (lent (now (links .entry)) (now (rules .entry)) (now (entries .entry)) (now (tally .entry))) (caller .0) (editOf edit) ⌝ }
 {
     match edit {
         Edit::AddRule(kind, mark, handling) => {
-            add_rule(n, m, links, rules, entries, tally, kind, mark, handling)
+            add_rule(
+                n,
+                m,
+                links,
+                rules,
+                entries,
+                tally,
+                caller,
+                kind,
+                mark,
+                handling,
+            )
         }
-        Edit::TakeRule(kind, mark) => take_rule(n, m, links, rules, entries, tally, kind, mark),
+        Edit::TakeRule(kind, mark) => take_rule(
+            n,
+            m,
+            links,
+            rules,
+            entries,
+            tally,
+            caller,
+            kind,
+            mark,
+        ),
         Edit::AddLink(child, parent) => {
-            add_link(n, m, links, rules, entries, tally, child, parent)
+            add_link(n, m, links, rules, entries, tally, caller, child, parent)
         }
         Edit::TakeLink(child, parent) => {
-            take_link(n, m, links, rules, entries, tally, child, parent)
+            take_link(n, m, links, rules, entries, tally, caller, child, parent)
         }
     }
 }

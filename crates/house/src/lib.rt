@@ -5,6 +5,7 @@ use packing::pack_edited;
 use packing::pack_inspected;
 use packing::pack_opened;
 use packing::pack_pair;
+use tables::Caller;
 ghost use mathlib.Core.Path.{_≡_};
 ghost use Rattle.tables.specs.Calls.{openBook, addRule, takeRule, addLink, takeLink, inspect, refresh};
 ghost use Rattle.tables.specs.Tables.{lent};
@@ -34,11 +35,12 @@ pub extern "C" fn house_add_rule(
     rules: &mut [u16],
     entries: &mut [u16],
     tally: &mut [u32],
+    caller: u16,
     kind: u16,
     mark: u16,
     handling: u16,
 ) -> u32
-    ensures { λ r. ⌜ Answers packedEdited (addRule n m (lent (now (links .entry)) (now (rules .entry)) (now (entries .entry)) (now (tally .entry))) kind mark handling) r (lent (now (links .entry)) (now (rules .exit)) (now (entries .exit)) (now (tally .exit))) ⌝ }
+    ensures { λ r. ⌜ Answers packedEdited (addRule n m (lent (now (links .entry)) (now (rules .entry)) (now (entries .entry)) (now (tally .entry))) caller kind mark handling) r (lent (now (links .entry)) (now (rules .exit)) (now (entries .exit)) (now (tally .exit))) ⌝ }
 {
     pack_edited(calls::add_rule(
         n,
@@ -47,6 +49,7 @@ pub extern "C" fn house_add_rule(
         rules,
         entries,
         tally,
+        Caller(caller),
         Kind(kind),
         Mark(mark),
         handling,
@@ -62,12 +65,16 @@ pub extern "C" fn house_take_rule(
     rules: &mut [u16],
     entries: &mut [u16],
     tally: &mut [u32],
+    caller: u16,
     kind: u16,
     mark: u16,
 ) -> u32
-    ensures { λ r. ⌜ Answers packedEdited (takeRule n m (lent (now (links .entry)) (now (rules .entry)) (now (entries .entry)) (now (tally .entry))) kind mark) r (lent (now (links .entry)) (now (rules .exit)) (now (entries .exit)) (now (tally .exit))) ⌝ }
+    ensures { λ r. ⌜ Answers packedEdited (takeRule n m (lent (now (links .entry)) (now (rules .entry)) (now (entries .entry)) (now (tally .entry))) caller kind mark) r (lent (now (links .entry)) (now (rules .exit)) (now (entries .exit)) (now (tally .exit))) ⌝ }
 {
-    pack_edited(calls::take_rule(n, m, links, rules, entries, tally, Kind(kind), Mark(mark)))
+    let by = Caller(caller);
+    let k = Kind(kind);
+    let j = Mark(mark);
+    pack_edited(calls::take_rule(n, m, links, rules, entries, tally, by, k, j))
 }
 
 // Add link.
@@ -79,14 +86,16 @@ pub extern "C" fn house_add_link(
     rules: &[u16],
     entries: &mut [u16],
     tally: &mut [u32],
+    caller: u16,
     child: u16,
     parent: u16,
 ) -> u32
-    ensures { λ r. ⌜ Answers packedEdited (addLink n m (lent (now (links .entry)) (now (rules .entry)) (now (entries .entry)) (now (tally .entry))) child parent) r (lent (now (links .exit)) (now (rules .entry)) (now (entries .exit)) (now (tally .exit))) ⌝ }
+    ensures { λ r. ⌜ Answers packedEdited (addLink n m (lent (now (links .entry)) (now (rules .entry)) (now (entries .entry)) (now (tally .entry))) caller child parent) r (lent (now (links .exit)) (now (rules .entry)) (now (entries .exit)) (now (tally .exit))) ⌝ }
 {
+    let by = Caller(caller);
     let c = Kind(child);
     let p = Kind(parent);
-    pack_edited(calls::add_link(n, m, links, rules, entries, tally, c, p))
+    pack_edited(calls::add_link(n, m, links, rules, entries, tally, by, c, p))
 }
 
 // Take link.
@@ -98,14 +107,16 @@ pub extern "C" fn house_take_link(
     rules: &[u16],
     entries: &mut [u16],
     tally: &mut [u32],
+    caller: u16,
     child: u16,
     parent: u16,
 ) -> u32
-    ensures { λ r. ⌜ Answers packedEdited (takeLink n m (lent (now (links .entry)) (now (rules .entry)) (now (entries .entry)) (now (tally .entry))) child parent) r (lent (now (links .exit)) (now (rules .entry)) (now (entries .exit)) (now (tally .exit))) ⌝ }
+    ensures { λ r. ⌜ Answers packedEdited (takeLink n m (lent (now (links .entry)) (now (rules .entry)) (now (entries .entry)) (now (tally .entry))) caller child parent) r (lent (now (links .exit)) (now (rules .entry)) (now (entries .exit)) (now (tally .exit))) ⌝ }
 {
+    let by = Caller(caller);
     let c = Kind(child);
     let p = Kind(parent);
-    pack_edited(calls::take_link(n, m, links, rules, entries, tally, c, p))
+    pack_edited(calls::take_link(n, m, links, rules, entries, tally, by, c, p))
 }
 
 // Refresh.

@@ -16,14 +16,14 @@ use Rattle.inheritance.specs.declared.Mark.{Mark}
 use Rattle.inheritance.specs.Checked.{kindBelow, markBelow}
 use Rattle.tables.specs.declared.Refusal.{Refusal}
 use Rattle.asking.specs.declared.Asked.{Asked}
-use Rattle.asking.specs.Ask.{askedKind, asked, Within}
+use Rattle.asking.specs.Ask.{askedAt, asked, Within}
 use Rattle.tables.specs.Reply.{refusalNumber}
 use Rattle.tables.specs.Tables.{Tables, shaped}
 use Rattle.tables.specs.Calls.{findingOf}
 use Rattle.tables.specs.Controller.{words16, spelled, shaped-bytes, packed, findPacked}
 use Rattle.tables.proofs.ControllerLaws.{spelled-shape}
 use Rattle.tables.proofs.ShapeLaws.{and-iff}
-use Rattle.asking.proofs.AskLaws.{asked-at, admitted, findingAt, find-at, find-refused}
+use Rattle.asking.proofs.AskLaws.{let-through, admitted, findingAt, find-at, find-refused}
 use Rattle.tables.proofs.FindingLaws.{finding-none, finding-dispute, finding-bad}
 
 module _ (n e : ℕ) (rule : ℕ → ℕ) where
@@ -48,28 +48,28 @@ module _ (n e : ℕ) (rule : ℕ → ℕ) where
       go false false some low h = ap packed (finding-bad n rule e (leb-false e n low) h)
 
 module _ (n m : ℕ) (t : Tables) (c i : ℕ) where
-  pub packed-at : {k : Kind} {j : Mark} → asked (askedKind (shaped-bytes n m t) (kindBelow n c)) (markBelow m i) ≡ Asked.At k j
+  pub packed-at : {k : Kind} {j : Mark} → asked (shaped-bytes n m t) (askedAt (kindBelow n c) (markBelow m i)) ≡ Asked.At k j
       → findPacked n m t c i ≡ packed (findingAt n m (spelled t) (k .0) (j .0))
   unfolding findPacked
   packed-at {k} {j} e =
-      let is = asked-at (shaped-bytes n m t) n m c i e .is-shaped in
-      let same : asked (askedKind (shaped n m (spelled t)) (kindBelow n c)) (markBelow m i) ≡ Asked.At k j = rw (spelled-shape n m t is) (rw is at e) in
+      let is = let-through (shaped-bytes n m t) e .0 in
+      let same : asked (shaped n m (spelled t)) (askedAt (kindBelow n c) (markBelow m i)) ≡ Asked.At k j = rw (spelled-shape n m t is) (rw is at e) in
       rw (is, findPacked) (ap packed (find-at n m (spelled t) c i same))
 
-  pub bytes-within : {k : Kind} {j : Mark} → asked (askedKind (shaped-bytes n m t) (kindBelow n c)) (markBelow m i) ≡ Asked.At k j
+  pub bytes-within : {k : Kind} {j : Mark} → asked (shaped-bytes n m t) (askedAt (kindBelow n c) (markBelow m i)) ≡ Asked.At k j
       → Within n m (words16 (t .rules)) (words16 (t .entries)) k j
   bytes-within {k} {j} e =
-      let is = asked-at (shaped-bytes n m t) n m c i e .is-shaped in
+      let is = let-through (shaped-bytes n m t) e .0 in
       admitted n m (spelled t) c i {k = k} {j = j} (rw (spelled-shape n m t is) (rw is at e)) .1
 
-  pub packed-refused : {why : Refusal} → asked (askedKind (shaped-bytes n m t) (kindBelow n c)) (markBelow m i) ≡ Asked.Refused why
+  pub packed-refused : {why : Refusal} → asked (shaped-bytes n m t) (askedAt (kindBelow n c) (markBelow m i)) ≡ Asked.Refused why
       → findPacked n m t c i ≡ refusalNumber why
   unfolding findPacked
   packed-refused {why} e = go (shaped-bytes n m t) refl e
     where
-      go : (b : Bool) → shaped-bytes n m t ≡ b → asked (askedKind b (kindBelow n c)) (markBelow m i) ≡ Asked.Refused why
+      go : (b : Bool) → shaped-bytes n m t ≡ b → asked b (askedAt (kindBelow n c) (markBelow m i)) ≡ Asked.Refused why
           → findPacked n m t c i ≡ refusalNumber why
       go false is e = let w : Refusal.Shape ≡ why = cc in rw (is, findPacked, ← w) refl
       go true is e =
-          let same : asked (askedKind (shaped n m (spelled t)) (kindBelow n c)) (markBelow m i) ≡ Asked.Refused why = rw (spelled-shape n m t is) e in
+          let same : asked (shaped n m (spelled t)) (askedAt (kindBelow n c) (markBelow m i)) ≡ Asked.Refused why = rw (spelled-shape n m t is) e in
           rw (is, findPacked) (ap packed (find-refused n m (spelled t) c i same))

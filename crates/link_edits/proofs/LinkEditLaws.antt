@@ -1,5 +1,6 @@
 -- An edit of a link, step by step.
---     link-refused, link-passed                refusals 1 and 2, and what comes after them
+--     caller-refused                           refusals 1 and 13
+--     link-refused, link-passed                refusal 2, and what comes after it
 --     added-link, taken-link                   the two calls are the two cases of `linkCall`
 --     judged-links                             what the rows and the places reached say is what the links say
 --     link-unsound, link-judged                refusal 5; refusals 7, 8 and 9
@@ -21,13 +22,15 @@ use Rattle.inheritance.proofs.Bools.{same-bool}
 use Rattle.relation.specs.Bit.{bit}
 use Rattle.relation.specs.First.{First}
 use Rattle.soundness.proofs.Soundness.{rows-links}
+use Rattle.asking.specs.declared.CallerAsked.{CallerAsked}
 use Rattle.asking.specs.declared.LinkAsked.{LinkAsked}
+use Rattle.tables.specs.declared.Caller.{Caller}
 use Rattle.tables.specs.declared.Refusal.{Refusal}
-use Rattle.asking.specs.Ask.{checkedLink}
+use Rattle.asking.specs.Ask.{askedLink, checkedCaller}
 use Rattle.tables.specs.Calls.{Outcome, leaves, check, accepted, addLink, takeLink}
 use Rattle.tables.specs.Reply.{refused, refusalNumber}
-use Rattle.tables.specs.Tables.{Tables, shaped, upOf, sound}
-use Rattle.asking.proofs.AskLaws.{asked-between, link-checks-pass, link-checks-refuse}
+use Rattle.tables.specs.Tables.{Tables, upOf, sound}
+use Rattle.asking.proofs.AskLaws.{asked-between, link-passes, link-refuses, asked-by, caller-passes, caller-refuses}
 use Rattle.tables.proofs.EditLaws.{added-acyclic, taken-acyclic}
 use Rattle.link_edits.specs.declared.Verdict.{Verdict}
 use Rattle.relinking.specs.Relinked.{linked}
@@ -35,25 +38,32 @@ use Rattle.resettling.specs.Known.{Known}
 use Rattle.link_edits.specs.LinkEdit.{judged, linkChecked, linkEdit, linkCall}
 use Rattle.resettling.proofs.KnownLaws.{has, known-place}
 
--- ---- refusals 1 and 2
+-- ---- refusals 1, 13 and 2
 
-module _ (n m : ℕ) (t : Tables) (c p : ℕ) where
+module _ (n m : ℕ) (t : Tables) (by c p : ℕ) where
   module _ (adding : Bool) where
-    pub link-refused : {why : Refusal} → checkedLink n m t c p ≡ LinkAsked.Refused why → leaves (refused (refusalNumber why)) t ≡ linkCall n m t c p adding
+    pub caller-refused : {why : Refusal} → checkedCaller n m t by ≡ CallerAsked.Refused why → leaves (refused (refusalNumber why)) t ≡ linkCall n m t by c p adding
     unfolding linkCall
-    link-refused e = sym (link-checks-refuse (shaped n m t) n c p t _ e)
+    caller-refused e = sym (caller-refuses n m t by _ e)
 
-    pub link-passed : {j k : Kind} → checkedLink n m t c p ≡ LinkAsked.Between j k → linkEdit n m t (j .0) (k .0) adding ≡ linkCall n m t c p adding
-    unfolding linkCall
-    link-passed e =
-        let a = asked-between (shaped n m t) n c p e in
-        rw (a .the-child, a .the-parent) (sym (link-checks-pass (shaped n m t) n c p t _ e))
+    module _ {b : Caller} (known : checkedCaller n m t by ≡ CallerAsked.By b) where
+      pub link-refused : {why : Refusal} → askedLink (kindBelow n c) (kindBelow n p) ≡ LinkAsked.Refused why
+          → leaves (refused (refusalNumber why)) t ≡ linkCall n m t by c p adding
+      unfolding linkCall
+      link-refused e = sym (caller-passes n m t by _ known ∙ link-refuses n c p t _ e)
 
-  pub added-link : linkCall n m t c p true ≡ addLink n m t c p
+      pub link-passed : {j k : Kind} → askedLink (kindBelow n c) (kindBelow n p) ≡ LinkAsked.Between j k
+          → linkEdit n m t (b .0) (j .0) (k .0) adding ≡ linkCall n m t by c p adding
+      unfolding linkCall
+      link-passed e =
+          let a = asked-between n c p e in
+          rw (asked-by n m t by known .the-caller, a .the-child, a .the-parent) (sym (caller-passes n m t by _ known ∙ link-passes n c p t _ e))
+
+  pub added-link : linkCall n m t by c p true ≡ addLink n m t by c p
   unfolding linkCall linkEdit addLink
   added-link = refl
 
-  pub taken-link : linkCall n m t c p false ≡ takeLink n m t c p
+  pub taken-link : linkCall n m t by c p false ≡ takeLink n m t by c p
   unfolding linkCall linkEdit takeLink
   taken-link = refl
 
@@ -94,9 +104,9 @@ module _ (n m : ℕ) (t : Tables) (c p : ℕ) (adding : Bool) where
   abbrev cycle : Bool
   cycle = eqb p c || above n (upOf n (t .links)) p c
 
-  pub link-unsound : sound n m t ≡ false → leaves (refused 5) t ≡ linkEdit n m t c p adding
+  pub link-unsound : (by : ℕ) → sound n m t ≡ false → leaves (refused 5) t ≡ linkEdit n m t by c p adding
   unfolding linkEdit check
-  link-unsound e = rw e refl
+  link-unsound by e = rw e refl
 
   module _ {rows order reach ruled : List ℕ} (k : Known n m t rows order reach ruled) (c-in : c < n) (p-in : p < n) where
     pub judged-links : {place : ℕ} → First (bit reach c) 0 128 place → judged adding (bit rows c p) (bit reach p place) ≡ judged adding there cycle
@@ -108,10 +118,10 @@ module _ (n m : ℕ) (t : Tables) (c p : ℕ) (adding : Bool) where
         ∙ ap₂ _||_ (ap (λ (x : ℕ). eqb x p) is ∙ eqb-turned c p)
         (ap (above n (bit rows) p) is ∙ above-same n (bit rows) (upOf n (t .links)) same p c p-in c-in))
 
-    pub link-judged : {why : Refusal} → judged adding there cycle ≡ Verdict.Refused why
-        → leaves (refused (refusalNumber why)) t ≡ linkEdit n m t c p adding
+    pub link-judged : (by : ℕ) {why : Refusal} → judged adding there cycle ≡ Verdict.Refused why
+        → leaves (refused (refusalNumber why)) t ≡ linkEdit n m t by c p adding
     unfolding linkEdit check
-    link-judged e = rw (k .is-sound) (checked-judged adding there cycle t _ e)
+    link-judged by e = rw (k .is-sound) (checked-judged adding there cycle t _ e)
 
     module _ (allowed : judged adding there cycle ≡ Verdict.Allowed) where
       pub link-acyclic : Acyclic n (upOf n (linked n (t .links) c p adding))
@@ -121,6 +131,6 @@ module _ (n m : ℕ) (t : Tables) (c p : ℕ) (adding : Bool) where
           go true e = added-acyclic n m t (has k) c p c-in p-in (no-cycle there cycle e)
           go false e = taken-acyclic n m t (has k) c p c-in p-in
 
-      pub link-allowed : accepted n m t (linked n (t .links) c p adding) (t .rules) ≡ linkEdit n m t c p adding
+      pub link-allowed : (by : ℕ) → accepted n m t by (linked n (t .links) c p adding) (t .rules) ≡ linkEdit n m t by c p adding
       unfolding linkEdit check
-      link-allowed = rw (k .is-sound) (sym (checked-allowed adding there cycle t _ allowed))
+      link-allowed by = rw (k .is-sound) (sym (checked-allowed adding there cycle t _ allowed))

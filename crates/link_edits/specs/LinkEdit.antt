@@ -8,8 +8,8 @@ use lib.Dec.{eqb, ltb}
 use Rattle.inheritance.specs.Above.{above}
 use Rattle.relinking.specs.Relinked.{linked}
 use Rattle.tables.specs.declared.Refusal.{Refusal}
-use Rattle.tables.specs.Calls.{Outcome, check, accepted}
-use Rattle.tables.specs.Tables.{Tables, shaped, upOf, sound}
+use Rattle.tables.specs.Calls.{Outcome, check, byCaller, accepted}
+use Rattle.tables.specs.Tables.{Tables, upOf, sound}
 use Rattle.link_edits.specs.declared.Verdict.{Verdict}
 
 abbrev pub judged : (adding linked cycle : Bool) → Verdict
@@ -24,14 +24,14 @@ abbrev pub linkChecked : (adding linked cycle : Bool) → Tables → Outcome ℕ
 linkChecked true linked cycle t next = check 7 (not linked) t (check 9 (not cycle) t next)
 linkChecked false linked cycle t next = check 8 linked t next
 
-unfoldable pub linkEdit : (n m : ℕ) → Tables → (child parent : ℕ) → (adding : Bool) → Outcome ℕ
-linkEdit n m t child parent adding =
+unfoldable pub linkEdit : (n m : ℕ) → Tables → (caller child parent : ℕ) → (adding : Bool) → Outcome ℕ
+linkEdit n m t caller child parent adding =
     check 5 (sound n m t) t
     (linkChecked adding (upOf n (t .links) child parent) (eqb parent child || above n (upOf n (t .links)) parent child) t
-    (accepted n m t (linked n (t .links) child parent adding) (t .rules)))
+    (accepted n m t caller (linked n (t .links) child parent adding) (t .rules)))
 
-unfoldable pub linkCall : (n m : ℕ) → Tables → (child parent : ℕ) → (adding : Bool) → Outcome ℕ
-linkCall n m t child parent adding =
-    check 1 (shaped n m t) t
+unfoldable pub linkCall : (n m : ℕ) → Tables → (caller child parent : ℕ) → (adding : Bool) → Outcome ℕ
+linkCall n m t caller child parent adding =
+    byCaller n m t caller
     (check 2 (ltb child n && ltb parent n) t
-    (linkEdit n m t child parent adding))
+    (linkEdit n m t caller child parent adding))

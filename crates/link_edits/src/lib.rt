@@ -1,17 +1,21 @@
 // The edits of a link. Nothing is written before the tables are known to be sound.
+use asking::CallerAsked;
 use asking::LinkAsked;
+use asking::ask_caller;
 use asking::ask_link;
 use inheritance::Kind;
 use relation::next;
 use relation::test;
 use relinking::apply_link;
 use soundness::examine;
+use tables::Caller;
 use tables::Edited;
 use tables::Refusal;
 ghost use mathlib.Core.Path.{_≡_};
 ghost use mathlib.Core.Bool.{true, false};
 ghost use Prim.Native.Nat.{_<_};
 ghost use Rattle.relation.specs.Bit.{bit};
+ghost use Rattle.tables.specs.Caller.{callers};
 ghost use Rattle.tables.specs.Calls.{leaves, addLink, takeLink};
 ghost use Rattle.tables.specs.Reply.{edited};
 ghost use Rattle.tables.specs.Tables.{lent, shaped};
@@ -63,13 +67,14 @@ fn edit_link(
     rules: &[u16],
     entries: &mut [u16],
     tally: &mut [u32],
+    caller: Caller,
     child: Kind,
     parent: Kind,
     adding: bool,
 ) -> Edited
-    requires { ⌜ (shaped n m (lent (now links) (now rules) (now entries) (now tally)) ≡ true) × (child .0 < n) × (parent .0 < n) ⌝ }
+    requires { ⌜ (shaped n m (lent (now links) (now rules) (now entries) (now tally)) ≡ true) × (caller .0 < callers) × (child .0 < n) × (parent .0 < n) ⌝ }
     ensures { λ r. ⌜ leaves (edited r) (lent (now (links .exit)) (now (rules .entry)) (now (entries .exit)) (now (tally .exit)))
-        ≡ linkEdit n m (lent (now (links .entry)) (now (rules .entry)) (now (entries .entry)) (now (tally .entry))) (child .0) (parent .0) adding ⌝ }
+        ≡ linkEdit n m (lent (now (links .entry)) (now (rules .entry)) (now (entries .entry)) (now (tally .entry))) (caller .0) (child .0) (parent .0) adding ⌝ }
 {
     let mut rows = [0u64; 256];
     let mut order = [0u8; 128];
@@ -103,6 +108,7 @@ fn edit_link(
             &mut order,
             &mut reach,
             &mut ruled,
+            caller,
             child,
             parent,
             adding,
@@ -118,16 +124,22 @@ fn change_link(
     rules: &[u16],
     entries: &mut [u16],
     tally: &mut [u32],
+    caller: Caller,
     child: Kind,
     parent: Kind,
     adding: bool,
 ) -> Edited
     ensures { λ r. ⌜ leaves (edited r) (lent (now (links .exit)) (now (rules .entry)) (now (entries .exit)) (now (tally .exit)))
-        ≡ linkCall n m (lent (now (links .entry)) (now (rules .entry)) (now (entries .entry)) (now (tally .entry))) (child .0) (parent .0) adding ⌝ }
+        ≡ linkCall n m (lent (now (links .entry)) (now (rules .entry)) (now (entries .entry)) (now (tally .entry))) (caller .0) (child .0) (parent .0) adding ⌝ }
 {
-    match ask_link(n, m, links, rules, entries, tally, child, parent) {
-        LinkAsked::Refused(why) => Edited::Refused(why),
-        LinkAsked::Between(c, p) => edit_link(n, m, links, rules, entries, tally, c, p, adding),
+    match ask_caller(n, m, links, rules, entries, tally, caller) {
+        CallerAsked::Refused(why) => Edited::Refused(why),
+        CallerAsked::By(by) => match ask_link(n, child, parent) {
+            LinkAsked::Refused(why) => Edited::Refused(why),
+            LinkAsked::Between(c, p) => {
+                edit_link(n, m, links, rules, entries, tally, by, c, p, adding)
+            }
+        },
     }
 }
 
@@ -139,13 +151,25 @@ pub fn add_link(
     rules: &[u16],
     entries: &mut [u16],
     tally: &mut [u32],
+    caller: Caller,
     child: Kind,
     parent: Kind,
 ) -> Edited
     ensures { λ r. ⌜ leaves (edited r) (lent (now (links .exit)) (now (rules .entry)) (now (entries .exit)) (now (tally .exit)))
-        ≡ addLink n m (lent (now (links .entry)) (now (rules .entry)) (now (entries .entry)) (now (tally .entry))) (child .0) (parent .0) ⌝ }
+        ≡ addLink n m (lent (now (links .entry)) (now (rules .entry)) (now (entries .entry)) (now (tally .entry))) (caller .0) (child .0) (parent .0) ⌝ }
 {
-    change_link(n, m, links, rules, entries, tally, child, parent, true)
+    change_link(
+        n,
+        m,
+        links,
+        rules,
+        entries,
+        tally,
+        caller,
+        child,
+        parent,
+        true,
+    )
 }
 
 // A kind loses a direct parent.
@@ -156,11 +180,23 @@ pub fn take_link(
     rules: &[u16],
     entries: &mut [u16],
     tally: &mut [u32],
+    caller: Caller,
     child: Kind,
     parent: Kind,
 ) -> Edited
     ensures { λ r. ⌜ leaves (edited r) (lent (now (links .exit)) (now (rules .entry)) (now (entries .exit)) (now (tally .exit)))
-        ≡ takeLink n m (lent (now (links .entry)) (now (rules .entry)) (now (entries .entry)) (now (tally .entry))) (child .0) (parent .0) ⌝ }
+        ≡ takeLink n m (lent (now (links .entry)) (now (rules .entry)) (now (entries .entry)) (now (tally .entry))) (caller .0) (child .0) (parent .0) ⌝ }
 {
-    change_link(n, m, links, rules, entries, tally, child, parent, false)
+    change_link(
+        n,
+        m,
+        links,
+        rules,
+        entries,
+        tally,
+        caller,
+        child,
+        parent,
+        false,
+    )
 }

@@ -1,9 +1,9 @@
--- What the calls answer as one 32-bit number, for callers in C. A refusal is 65,536 + its number.
+-- What the calls answer as one 32-bit number, for programs in C. A refusal is 65,536 + its number.
 --     packedOpened    0 for an accepted open
 --     packedEdited    the count
 --     packedPair      256 × one + the other
 --     GivesPair       some reply that parties may give, packed
---     Answers         a call's outcome as callers in C get it: one number, and the tables that it leaves
+--     Answers         a call's outcome as programs in C get it: one number, and the tables that it leaves
 --     packedFault     sound is 0; a link byte's place, a kind and an entry's place are told apart by their upper half
 -- Assumes nothing.
 use mathlib.Core.Path.{_≡_}

@@ -1,4 +1,4 @@
-// The answers of the calls as one 32-bit number each, for callers in C.
+// The answers of the calls as one 32-bit number each, for programs in C.
 use tables::Edited;
 use tables::Inspected;
 use tables::Opened;

@@ -102,9 +102,9 @@ module _ (n m : ℕ) (t : Tables) (c p : ℕ) (adding : Bool) {rows order reach 
   link-untouched =
       link-awaiting n m (bit rows) (t .rules) (t .entries) (has k .sizes .entries-size) (acyclic k) (looked k) (bit rows′) c p same-but acyclic-after
 
-  pub link-done : {links new tally : List ℕ} {count : ℕ} → links ≡ linked n (t .links) c p adding → Settled n m 0 m (bit rows′) (t .rules) (t .entries) new count
-      → tally ≡ tallied 0 (t .tally) → leaves (given count) (lent links (t .rules) new tally) ≡ accepted n m t (linked n (t .links) c p adding) (t .rules)
-  link-done {new = new} stored s counted =
+  pub link-done : (caller : ℕ) {links new tally : List ℕ} {count : ℕ} → links ≡ linked n (t .links) c p adding → Settled n m 0 m (bit rows′) (t .rules) (t .entries) new count
+      → tally ≡ tallied caller (t .tally) → leaves (given count) (lent links (t .rules) new tally) ≡ accepted n m t caller (linked n (t .links) c p adding) (t .rules)
+  link-done caller {new = new} stored s counted =
       rw (stored, counted)
-      (given-accepted n m t (linked n (t .links) c p adding) (t .rules) rows′ (has k .sizes .kinds) loaded-after acyclic-after
+      (given-accepted n m t caller (linked n (t .links) c p adding) (t .rules) rows′ (has k .sizes .kinds) loaded-after acyclic-after
       (all-settled n m (bit rows′) (t .rules) (t .entries) new (has k .sizes .entries-size) s))

@@ -6,11 +6,13 @@ use relation::unmark;
 use resettling::count_edit;
 use resettling::resettle_link;
 use ruling::rule_rows;
+use tables::Caller;
 use tables::link_place;
 ghost use mathlib.Core.Path.{_≡_};
 ghost use Prim.Native.Nat.{_<_};
 ghost use Rattle.inheritance.specs.Above.{Acyclic};
 ghost use Rattle.resettling.specs.Known.{Known};
+ghost use Rattle.tables.specs.Caller.{callers};
 ghost use Rattle.tables.specs.Calls.{leaves, accepted};
 ghost use Rattle.tables.specs.Reply.{given};
 ghost use Rattle.tables.specs.Tables.{lent, upOf};
@@ -58,14 +60,15 @@ pub fn apply_link(
     order: &mut [u8; 128],
     reach: &mut [u64; 256],
     ruled: &mut [u64; 256],
+    caller: Caller,
     child: Kind,
     parent: Kind,
     adding: bool,
 ) -> u16
-    requires { ⌜ (Known n m (lent (now links) (now rules) (now entries) (now tally)) (now rows) (now order) (now reach) (now ruled)) × (child .0 < n) × (parent .0 < n) ⌝ }
+    requires { ⌜ (Known n m (lent (now links) (now rules) (now entries) (now tally)) (now rows) (now order) (now reach) (now ruled)) × (caller .0 < callers) × (child .0 < n) × (parent .0 < n) ⌝ }
     requires { ⌜ Acyclic n (upOf n (linked n (now links) (child .0) (parent .0) adding)) ⌝ }
     ensures { λ r. ⌜ leaves (given r) (lent (now (links .exit)) (now (rules .entry)) (now (entries .exit)) (now (tally .exit)))
-        ≡ accepted n m (lent (now (links .entry)) (now (rules .entry)) (now (entries .entry)) (now (tally .entry)))
+        ≡ accepted n m (lent (now (links .entry)) (now (rules .entry)) (now (entries .entry)) (now (tally .entry))) (caller .0)
         (linked n (now (links .entry)) (child .0) (parent .0) adding) (now (rules .entry)) ⌝ }
 {
     let kinds = n as usize;
@@ -94,6 +97,6 @@ pub fn apply_link(
         rules,
         entries,
     );
-    count_edit(tally, 0);
+    count_edit(tally, caller);
     count
 }

@@ -11,7 +11,8 @@ use lib.ListN.{length, set, drop, replicate, length-set}
 use lib.Seq.{drop-length}
 use borrow.Author.Fill.{fill-more}
 use Rattle.tables.specs.Reply.{refused, given}
-use Rattle.tables.specs.Tables.{Tables, lent, tallies, shaped}
+use Rattle.tables.specs.Caller.{callers}
+use Rattle.tables.specs.Tables.{Tables, lent, shaped}
 use Rattle.tables.specs.Calls.{leaves, check, openBook}
 use Rattle.tables.proofs.ShapeLaws.{sized-facts}
 
@@ -46,7 +47,7 @@ module _ (n m : ℕ) (t : Tables) where
   open-done is l r e y =
       let s = sized-facts 1 1 n m (length (t .links)) (length (t .rules)) (length (t .entries)) (length (t .tally)) is in
       let places : 1 * (n * m) ≡ n * m = omega arith in
-      let numbers : length (t .tally) ≡ tallies = omega (arith, s .tally-length) in
+      let numbers : length (t .tally) ≡ callers = omega (arith, s .tally-length) in
       rw (is, check, l, r, e, y, s .links-length, s .rules-length, s .entries-length, places, numbers) refl
 
   pub open-refused : shaped n m t ≡ false → leaves (refused 1) t ≡ openBook n m t

@@ -1,4 +1,5 @@
 -- From a form to a call.
+--     program    the caller that the text program is
 --     callFor    the call that a form asks for
 --     fresh      a request for a new book
 --     OfBook     a call has the size of the book, unless it asks for a new one
@@ -15,20 +16,24 @@ use Rattle.requests.specs.declared.Wanted.{Wanted}
 abbrev pub asks : (n m : ℕ) → Request → Call
 asks n m request = record { n = n; m = m; request = request }
 
+-- the text program is caller 0
+abbrev pub program : ℕ
+program = 0
+
 -- the call that a form asks for on a book of n kinds and m marks: open names its own size, every other form has the book's
 abbrev pub callFor : (n m : ℕ) → Form → Reply Call
 callFor n m (openBook k j) = given (asks k j Request.openBook)
-callFor n m (addRule kind mark handling) = given (asks n m (Request.edit (Edit.addRule kind mark handling)))
-callFor n m (takeRule kind mark) = given (asks n m (Request.edit (Edit.takeRule kind mark)))
-callFor n m (addLink child parent) = given (asks n m (Request.edit (Edit.addLink child parent)))
-callFor n m (takeLink child parent) = given (asks n m (Request.edit (Edit.takeLink child parent)))
+callFor n m (addRule kind mark handling) = given (asks n m (Request.edit program (Edit.addRule kind mark handling)))
+callFor n m (takeRule kind mark) = given (asks n m (Request.edit program (Edit.takeRule kind mark)))
+callFor n m (addLink child parent) = given (asks n m (Request.edit program (Edit.addLink child parent)))
+callFor n m (takeLink child parent) = given (asks n m (Request.edit program (Edit.takeLink child parent)))
 callFor n m (find kind mark) = given (asks n m (Request.find kind mark))
 callFor n m bad = refused 12
 
 -- a request for a new book
 abbrev pub fresh : Request → Bool
 fresh Request.openBook = true
-fresh (Request.edit e) = false
+fresh (Request.edit caller e) = false
 fresh (Request.find kind mark) = false
 fresh (Request.parties kind mark) = false
 fresh Request.inspect = false

@@ -1,11 +1,15 @@
 // From a form to the call that it asks for.
 use forms::Form;
 use tables::Call;
+use tables::Caller;
 use tables::Edit;
 use tables::Request;
 ghost use mathlib.Core.Path.{_≡_};
 ghost use Rattle.forms.specs.Forms.{formed};
 ghost use Rattle.requests.specs.Requests.{callFor, OfBookIf, wanted};
+
+// The caller that the text program is.
+const PROGRAM: Caller = Caller(0);
 
 // The call that a form asks for, or that a line has no form.
 pub enum Wanted {
@@ -26,10 +30,10 @@ pub fn call_for(form: Form, n: u16, m: u16) -> Wanted
             };
             return Wanted::Call(open);
         }
-        Form::AddRule(k, j, h) => Request::Edit(Edit::AddRule(k, j, h)),
-        Form::TakeRule(k, j) => Request::Edit(Edit::TakeRule(k, j)),
-        Form::AddLink(c, p) => Request::Edit(Edit::AddLink(c, p)),
-        Form::TakeLink(c, p) => Request::Edit(Edit::TakeLink(c, p)),
+        Form::AddRule(k, j, h) => Request::Edit(PROGRAM, Edit::AddRule(k, j, h)),
+        Form::TakeRule(k, j) => Request::Edit(PROGRAM, Edit::TakeRule(k, j)),
+        Form::AddLink(c, p) => Request::Edit(PROGRAM, Edit::AddLink(c, p)),
+        Form::TakeLink(c, p) => Request::Edit(PROGRAM, Edit::TakeLink(c, p)),
         Form::Find(k, j) => Request::Find(k, j),
         Form::Bad => return Wanted::Bad,
     };

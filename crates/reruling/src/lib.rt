@@ -5,6 +5,7 @@ use relation::next;
 use relation::unmark;
 use resettling::count_edit;
 use resettling::resettle_rule;
+use tables::Caller;
 use tables::place;
 ghost use mathlib.Core.Path.{_≡_};
 ghost use mathlib.Core.Bool.{not};
@@ -14,7 +15,8 @@ ghost use lib.ListN.{length};
 ghost use Rattle.relation.specs.Bit.{bit};
 ghost use Rattle.deciding.specs.Deciding.{Prepared};
 ghost use Rattle.resettling.specs.Edits.{Reset};
-ghost use Rattle.tables.specs.Tables.{tallies, Sized};
+ghost use Rattle.tables.specs.Caller.{callers};
+ghost use Rattle.tables.specs.Tables.{Sized};
 ghost use Rattle.reruling.specs.Reruled.{stored, RuleUntouched, Applied};
 
 // The kind at place i is put among the rule kinds of a mark, or taken out where the handling is 0.
@@ -42,14 +44,15 @@ pub fn apply_rule(
     order: &[u8; 128],
     reach: &[u64; 256],
     ruled: &mut [u64; 256],
+    caller: Caller,
     kind: Kind,
     mark: Mark,
     handling: u16,
 ) -> u16
-    requires { ⌜ (Sized n m (now rules) (now entries)) × (length (now tally) ≡ tallies) × (kind .0 < n) × (mark .0 < m) ⌝ }
+    requires { ⌜ (Sized n m (now rules) (now entries)) × (length (now tally) ≡ callers) × (caller .0 < callers) × (kind .0 < n) × (mark .0 < m) ⌝ }
     requires { ⌜ Prepared n m (now rows) (now rules) (now order) (now reach) (now ruled) ⌝ }
     requires { ⌜ RuleUntouched n m (kind .0) (mark .0) (bit (now rows)) (stored m (now rules) (kind .0) (mark .0) handling) (now entries) ⌝ }
-    ensures { λ r. ⌜ Applied n m (kind .0) (mark .0) (bit (now (rows .entry))) (stored m (now (rules .entry)) (kind .0) (mark .0) handling) (now (rules .exit))
+    ensures { λ r. ⌜ Applied n m (caller .0) (kind .0) (mark .0) (bit (now (rows .entry))) (stored m (now (rules .entry)) (kind .0) (mark .0) handling) (now (rules .exit))
         (now (entries .entry)) (now (entries .exit)) (now (tally .entry)) (now (tally .exit)) r ⌝ }
 {
     rules[place(kind, mark, m)] = handling;
@@ -66,6 +69,6 @@ pub fn apply_rule(
         rules,
         entries,
     );
-    count_edit(tally, 0);
+    count_edit(tally, caller);
     count
 }

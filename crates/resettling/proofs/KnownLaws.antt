@@ -19,9 +19,10 @@ use Rattle.soundness.specs.Examined.{Examined}
 use Rattle.settling.proofs.Editing.{Accepted}
 use Rattle.deciding.proofs.Preparing.{kind-place}
 use Rattle.soundness.proofs.Soundness.{rows-links, links-rows}
+use Rattle.tables.specs.Caller.{callers}
 use Rattle.tables.specs.Calls.{leaves, accepted}
 use Rattle.tables.specs.Reply.{given}
-use Rattle.tables.specs.Tables.{Tables, lent, tallies, shaped, Sized, upOf, entriesOf, sound, tallied}
+use Rattle.tables.specs.Tables.{Tables, lent, shaped, Sized, upOf, entriesOf, sound, tallied}
 use Rattle.tables.proofs.EditLaws.{Passed, passed}
 use Rattle.tables.proofs.ShapeLaws.{sized-facts, shape-sized}
 use Rattle.tables.proofs.SoundLaws.{acyclic-agree, entriesOf-agree}
@@ -31,7 +32,7 @@ module _ (n m : ℕ) (t : Tables) where
   pub fits-sized : shaped n m t ≡ true → Sized n m (t .rules) (t .entries) × (length (t .links) ≡ n * n)
   fits-sized fits = let s = sized-facts 1 1 n m _ _ _ _ fits in (shape-sized n m t s, s .links-length)
 
-  pub fits-tally : shaped n m t ≡ true → length (t .tally) ≡ tallies
+  pub fits-tally : shaped n m t ≡ true → length (t .tally) ≡ callers
   fits-tally fits = let s = sized-facts 1 1 n m _ _ _ _ fits in omega (arith, s .tally-length)
 
   pub known : (rows order reach ruled : List ℕ) {r : Bool} → shaped n m t ≡ true → Examined n m (t .links) (t .rules) (t .entries) rows order reach ruled r → r ≡ true
@@ -44,11 +45,11 @@ module _ (n m : ℕ) (t : Tables) where
   }
 
   -- the rows have the links
-  pub given-accepted : (links rules rows : List ℕ) → n ≤ 128 → Loaded n links rows → Acyclic n (bit rows)
+  pub given-accepted : (caller : ℕ) (links rules rows : List ℕ) → n ≤ 128 → Loaded n links rows → Acyclic n (bit rows)
       → {new : List ℕ} {count : ℕ} → Accepted n m (bit rows) rules (t .entries) new count
-      → leaves (given count) (lent links rules new (tallied 0 (t .tally))) ≡ accepted n m t links rules
+      → leaves (given count) (lent links rules new (tallied caller (t .tally))) ≡ accepted n m t caller links rules
   unfolding accepted
-  given-accepted links rules rows kinds loaded acyclic a =
+  given-accepted caller links rules rows kinds loaded acyclic a =
       let same = entriesOf-agree n (bit rows) (upOf n links) (rows-links n links rows kinds loaded) m (omega arith) acyclic rules in
       rw (a .0, a .1, same) refl
 

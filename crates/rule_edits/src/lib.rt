@@ -1,16 +1,20 @@
 // The edits of a rule. Nothing is written before the tables are known to be sound.
 use asking::Asked;
-use asking::ask_place;
+use asking::CallerAsked;
+use asking::ask_at;
+use asking::ask_caller;
 use inheritance::Kind;
 use inheritance::Mark;
 use reruling::apply_rule;
 use soundness::examine;
+use tables::Caller;
 use tables::Edited;
 use tables::Refusal;
 use tables::place;
 ghost use mathlib.Core.Path.{_≡_};
 ghost use mathlib.Core.Bool.{true};
 ghost use Prim.Native.Nat.{_<_};
+ghost use Rattle.tables.specs.Caller.{callers};
 ghost use Rattle.tables.specs.Calls.{leaves, addRule, takeRule};
 ghost use Rattle.tables.specs.Reply.{edited};
 ghost use Rattle.tables.specs.Tables.{lent, shaped};
@@ -24,13 +28,14 @@ fn edit_rule(
     rules: &mut [u16],
     entries: &mut [u16],
     tally: &mut [u32],
+    caller: Caller,
     kind: Kind,
     mark: Mark,
     handling: u16,
 ) -> Edited
-    requires { ⌜ (shaped n m (lent (now links) (now rules) (now entries) (now tally)) ≡ true) × (kind .0 < n) × (mark .0 < m) ⌝ }
+    requires { ⌜ (shaped n m (lent (now links) (now rules) (now entries) (now tally)) ≡ true) × (caller .0 < callers) × (kind .0 < n) × (mark .0 < m) ⌝ }
     ensures { λ r. ⌜ leaves (edited r) (lent (now (links .entry)) (now (rules .exit)) (now (entries .exit)) (now (tally .exit)))
-        ≡ ruleEdit n m (lent (now (links .entry)) (now (rules .entry)) (now (entries .entry)) (now (tally .entry))) (kind .0) (mark .0) handling ⌝ }
+        ≡ ruleEdit n m (lent (now (links .entry)) (now (rules .entry)) (now (entries .entry)) (now (tally .entry))) (caller .0) (kind .0) (mark .0) handling ⌝ }
 {
     let mut rows = [0u64; 256];
     let mut order = [0u8; 128];
@@ -63,6 +68,7 @@ fn edit_rule(
         &order,
         &reach,
         &mut ruled,
+        caller,
         kind,
         mark,
         handling,
@@ -78,23 +84,27 @@ fn change_rule(
     rules: &mut [u16],
     entries: &mut [u16],
     tally: &mut [u32],
+    caller: Caller,
     kind: Kind,
     mark: Mark,
     handling: u16,
     adding: bool,
 ) -> Edited
     ensures { λ r. ⌜ leaves (edited r) (lent (now (links .entry)) (now (rules .exit)) (now (entries .exit)) (now (tally .exit)))
-        ≡ ruleCall n m (lent (now (links .entry)) (now (rules .entry)) (now (entries .entry)) (now (tally .entry))) (kind .0) (mark .0) handling adding ⌝ }
+        ≡ ruleCall n m (lent (now (links .entry)) (now (rules .entry)) (now (entries .entry)) (now (tally .entry))) (caller .0) (kind .0) (mark .0) handling adding ⌝ }
 {
-    match ask_place(n, m, links, rules, entries, tally, kind, mark) {
-        Asked::Refused(why) => Edited::Refused(why),
-        Asked::At(k, j) => {
-            if adding & (handling == 0) {
-                Edited::Refused(Refusal::Handling)
-            } else {
-                edit_rule(n, m, links, rules, entries, tally, k, j, handling)
+    match ask_caller(n, m, links, rules, entries, tally, caller) {
+        CallerAsked::Refused(why) => Edited::Refused(why),
+        CallerAsked::By(by) => match ask_at(n, m, kind, mark) {
+            Asked::Refused(why) => Edited::Refused(why),
+            Asked::At(k, j) => {
+                if adding & (handling == 0) {
+                    Edited::Refused(Refusal::Handling)
+                } else {
+                    edit_rule(n, m, links, rules, entries, tally, by, k, j, handling)
+                }
             }
-        }
+        },
     }
 }
 
@@ -106,12 +116,13 @@ pub fn add_rule(
     rules: &mut [u16],
     entries: &mut [u16],
     tally: &mut [u32],
+    caller: Caller,
     kind: Kind,
     mark: Mark,
     handling: u16,
 ) -> Edited
     ensures { λ r. ⌜ leaves (edited r) (lent (now (links .entry)) (now (rules .exit)) (now (entries .exit)) (now (tally .exit)))
-        ≡ addRule n m (lent (now (links .entry)) (now (rules .entry)) (now (entries .entry)) (now (tally .entry))) (kind .0) (mark .0) handling ⌝ }
+        ≡ addRule n m (lent (now (links .entry)) (now (rules .entry)) (now (entries .entry)) (now (tally .entry))) (caller .0) (kind .0) (mark .0) handling ⌝ }
 {
     change_rule(
         n,
@@ -120,6 +131,7 @@ pub fn add_rule(
         rules,
         entries,
         tally,
+        caller,
         kind,
         mark,
         handling,
@@ -135,11 +147,24 @@ pub fn take_rule(
     rules: &mut [u16],
     entries: &mut [u16],
     tally: &mut [u32],
+    caller: Caller,
     kind: Kind,
     mark: Mark,
 ) -> Edited
     ensures { λ r. ⌜ leaves (edited r) (lent (now (links .entry)) (now (rules .exit)) (now (entries .exit)) (now (tally .exit)))
-        ≡ takeRule n m (lent (now (links .entry)) (now (rules .entry)) (now (entries .entry)) (now (tally .entry))) (kind .0) (mark .0) ⌝ }
+        ≡ takeRule n m (lent (now (links .entry)) (now (rules .entry)) (now (entries .entry)) (now (tally .entry))) (caller .0) (kind .0) (mark .0) ⌝ }
 {
-    change_rule(n, m, links, rules, entries, tally, kind, mark, 0, false)
+    change_rule(
+        n,
+        m,
+        links,
+        rules,
+        entries,
+        tally,
+        caller,
+        kind,
+        mark,
+        0,
+        false,
+    )
 }

@@ -1,5 +1,5 @@
--- What the text program never prints, whatever lines it is given: the program's book is sound at every line.
---     never-5, never-10    no line that is printed for the lines of a session is `(refused 5)` or `(refused 10)`
+-- What the text program never prints, whatever lines it is given: the program's book is sound at every line, and the program is one of the callers.
+--     never-5, never-10, never-13    no line that is printed for the lines of a session is `(refused 5)`, `(refused 10)` or `(refused 13)`
 -- Assumes nothing.
 use mathlib.Core.Path.{_≡_, refl, sym, ap, _∙_}
 use mathlib.Core.Bool.{Bool, true, false}
@@ -8,7 +8,7 @@ use mathlib.Core.Logic.{_≢_, _⊎_, inl, inr, ⊎-elim, by-cases}
 use Prim.Native.Nat.{ℕ, _<_, _≤_}
 use native.Mathlib.Decide.{decLt}
 use native.Mathlib.Omega.{arith}
-use borrow.Author.Tests.{le-ltb}
+use borrow.Author.Tests.{le-ltb, ltb-true}
 use lib.ListN.{length, getD, drop, length-append}
 use Rattle.patterns.specs.Decimal.{number, digits, width, isDigit, numberAt}
 use Rattle.patterns.specs.Pattern.{filled}
@@ -16,15 +16,16 @@ use Rattle.patterns.proofs.DecimalLaws.{length-digits, number-digits}
 use Rattle.tables.specs.Reply.{Reply, refused, given, Finding}
 use Rattle.tables.specs.Tables.{shaped, sound}
 use Rattle.tables.specs.Calls as calls
-use Rattle.tables.specs.Calls.{leaves, check, zeros}
-use Rattle.tables.specs.Books.{Edit, Request, Call, Answer, Result, opening, editing, finding, pairing, inspecting, RefusedBy, outcome, Carried}
+use Rattle.tables.specs.Calls.{Outcome, leaves, check, zeros}
+use Rattle.tables.specs.Books.{Edit, Request, Call, Answer, Result, opening, editing, finding, pairing, inspecting, RefusedBy, answerTo, outcome, Carried}
 use Rattle.tables.proofs.BookLaws.{Consistent, consistent-sound, opened-consistent, call-consistent}
-use Rattle.tables.proofs.CallLaws.{given-not-refused}
+use Rattle.tables.proofs.CallLaws.{given-not-refused, check-cases, entry-found}
+use Rattle.tables.proofs.CallerLaws.{caller-known}
 use Rattle.tables.proofs.NeverLaws as tables
 use Rattle.tables.proofs.ShapeLaws.{sized-facts}
 use Rattle.answers.specs.Answers.{printedRefused, printedAnswer}
 use Rattle.forms.specs.Forms.{Form, openBook, addRule, takeRule, addLink, takeLink, find, bad, formOf}
-use Rattle.requests.specs.Requests.{asks}
+use Rattle.requests.specs.Requests.{program, asks}
 use Rattle.session.specs.Line.{Book, openedBook, carries, turnOf, lineOf}
 use Rattle.session.specs.Session.{start, answers}
 
@@ -68,15 +69,23 @@ module _ (y : ℕ) (short : width y < 5) (small : y ≤ 65535) where
   told n m (inspecting reply) other = byte-differs 0 (λ e. omega arith)
 
 abbrev Apart : List ℕ → Type 0
-Apart line = (line ≢ printedRefused 5) × (line ≢ printedRefused 10)
+Apart line = (line ≢ printedRefused 5) × (line ≢ printedRefused 10) × (line ≢ printedRefused 13)
 
-answer-apart : (n m : ℕ) (answer : Answer) → ¬ RefusedBy 5 answer → ¬ RefusedBy 10 answer → Apart (printedAnswer n m answer)
+answer-apart : (n m : ℕ) (answer : Answer) → ¬ RefusedBy 5 answer → ¬ RefusedBy 10 answer → ¬ RefusedBy 13 answer → Apart (printedAnswer n m answer)
 unfolding width
-answer-apart n m answer five ten = (told 5 (omega arith) (omega arith) n m answer five, told 10 (omega arith) (omega arith) n m answer ten)
+answer-apart n m answer five ten thirteen = (
+  told 5 (omega arith) (omega arith) n m answer five,
+  told 10 (omega arith) (omega arith) n m answer ten,
+  told 13 (omega arith) (omega arith) n m answer thirteen,
+)
 
-refusal-apart : (x : ℕ) → x ≢ 5 → x ≢ 10 → Apart (printedRefused x)
+refusal-apart : (x : ℕ) → x ≢ 5 → x ≢ 10 → x ≢ 13 → Apart (printedRefused x)
 unfolding width
-refusal-apart x five ten = (λ e. five (refusals-tell x 5 (omega arith) (omega arith) e), λ e. ten (refusals-tell x 10 (omega arith) (omega arith) e))
+refusal-apart x five ten thirteen = (
+  λ e. five (refusals-tell x 5 (omega arith) (omega arith) e),
+  λ e. ten (refusals-tell x 10 (omega arith) (omega arith) e),
+  λ e. thirteen (refusals-tell x 13 (omega arith) (omega arith) e),
+)
 
 -- ---- the program's book
 
@@ -102,15 +111,33 @@ module _ (b : Book) (right : Right b) where
     carried : Carried call (b .tables) (result .answer) (result .tables)
     carried = record { pair = refused 0; may = λ k j e. absurd (alone k j e); carried = refl }
 
-    call-apart : Apart (printedAnswer (b .n) (b .m) (result .answer))
-    call-apart =
+    call-apart : ¬ RefusedBy 13 (result .answer) → Apart (printedAnswer (b .n) (b .m) (result .answer))
+    call-apart thirteen =
         answer-apart (b .n) (b .m) (result .answer) (tables.never-5 call (b .tables) sound-or-none carried) (tables.never-10 call (b .tables) sound-or-none carried)
+        thirteen
 
-  edit-alone : (e : Edit) (k j : ℕ) → Request.edit e ≢ Request.parties k j
-  edit-alone e k j is = let never : _≡_ {A = ℕ} 0 1 = cc in omega arith
+  edit-alone : (by : ℕ) (e : Edit) (k j : ℕ) → Request.edit by e ≢ Request.parties k j
+  edit-alone by e k j is = let never : _≡_ {A = ℕ} 0 1 = cc in omega arith
 
   find-alone : (c i k j : ℕ) → Request.find c i ≢ Request.parties k j
   find-alone c i k j is = let never : _≡_ {A = ℕ} 0 1 = cc in omega arith
+
+  edit-apart : (e : Edit) → Apart (printedAnswer (b .n) (b .m) (result (Request.edit program e) (edit-alone program e) .answer))
+  unfolding answerTo
+  edit-apart e = call-apart (Request.edit program e) (edit-alone program e) (caller-known (b .n) (b .m) (b .tables) program e (omega arith))
+
+  find-not-13 : (k j : ℕ) → calls.find (b .n) (b .m) (b .tables) k j .reply ≢ refused 13
+  unfolding calls.find
+  find-not-13 k j =
+      let P : Outcome Finding → Type 0 = λ o. o .reply ≢ refused 13 in
+      check-cases 1 (b .tables) _ P _ (λ e. let never : _≡_ {A = ℕ} 1 13 = cc in omega arith) λ fits.
+      check-cases 2 (b .tables) _ P _ (λ e. let never : _≡_ {A = ℕ} 2 13 = cc in omega arith) λ hk.
+      check-cases 3 (b .tables) _ P _ (λ e. let never : _≡_ {A = ℕ} 3 13 = cc in omega arith) λ hj e.
+      given-not-refused _ 13 (sym (entry-found (b .n) (b .m) (b .tables) k j fits (ltb-true k (b .n) hk) (ltb-true j (b .m) hj) (sound-or-none fits)) ∙ e)
+
+  find-apart : (k j : ℕ) → Apart (printedAnswer (b .n) (b .m) (result (Request.find k j) (find-alone k j) .answer))
+  unfolding answerTo
+  find-apart k j = call-apart (Request.find k j) (find-alone k j) (find-not-13 k j)
 
   open-right : (n m : ℕ) (reply : Reply (Unit {0})) → calls.openBook n m (zeros n m) .reply ≡ reply
       → Right (openedBook b n m reply (calls.openBook n m (zeros n m) .tables))
@@ -122,28 +149,28 @@ module _ (b : Book) (right : Right b) where
   open-apart n m = go (shaped n m (zeros n m))
     where
       go : (fits : Bool) → Apart (printedAnswer n m (opening (check 1 fits (zeros n m) (leaves (given tt) (zeros n m)) .reply)))
-      go true = answer-apart n m (opening (given tt)) (given-not-refused tt 5) (given-not-refused tt 10)
-      go false = refusal-apart 1 (λ e. omega arith) (λ e. omega arith)
+      go true = answer-apart n m (opening (given tt)) (given-not-refused tt 5) (given-not-refused tt 10) (given-not-refused tt 13)
+      go false = refusal-apart 1 (λ e. omega arith) (λ e. omega arith) (λ e. omega arith)
 
   form-right : (form : Form) → Right (turnOf b form .book)
   unfolding turnOf carries
   form-right (openBook n m) = open-right n m _ refl
-  form-right (addRule k j h) = call-right _ (edit-alone _)
-  form-right (takeRule k j) = call-right _ (edit-alone _)
-  form-right (addLink c p) = call-right _ (edit-alone _)
-  form-right (takeLink c p) = call-right _ (edit-alone _)
+  form-right (addRule k j h) = call-right _ (edit-alone _ _)
+  form-right (takeRule k j) = call-right _ (edit-alone _ _)
+  form-right (addLink c p) = call-right _ (edit-alone _ _)
+  form-right (takeLink c p) = call-right _ (edit-alone _ _)
   form-right (find k j) = call-right _ (find-alone _ _)
   form-right bad = right
 
   form-apart : (form : Form) → Apart (turnOf b form .printed)
   unfolding turnOf carries
   form-apart (openBook n m) = open-apart n m
-  form-apart (addRule k j h) = call-apart _ (edit-alone _)
-  form-apart (takeRule k j) = call-apart _ (edit-alone _)
-  form-apart (addLink c p) = call-apart _ (edit-alone _)
-  form-apart (takeLink c p) = call-apart _ (edit-alone _)
-  form-apart (find k j) = call-apart _ (find-alone _ _)
-  form-apart bad = refusal-apart 12 (λ e. omega arith) (λ e. omega arith)
+  form-apart (addRule k j h) = edit-apart _
+  form-apart (takeRule k j) = edit-apart _
+  form-apart (addLink c p) = edit-apart _
+  form-apart (takeLink c p) = edit-apart _
+  form-apart (find k j) = find-apart k j
+  form-apart bad = refusal-apart 12 (λ e. omega arith) (λ e. omega arith) (λ e. omega arith)
 
 -- ---- sessions
 
@@ -160,3 +187,6 @@ module _ (lines before after : List (List ℕ)) (line : List ℕ) (printed : ans
 
   pub never-10 : line ≢ printedRefused 10
   never-10 = every start (inl refl) lines before after line printed .1
+
+  pub never-13 : line ≢ printedRefused 13
+  never-13 = every start (inl refl) lines before after line printed .2

@@ -74,7 +74,7 @@ record Other (pair : Reply TwoKinds) (n m : ℕ) (t : Tables) (r : Request) : Ty
 open-or-other : (pair : Reply TwoKinds) (n m : ℕ) (t : Tables) (r : Request) → (r ≡ Request.openBook) ⊎ Other pair n m t r
 unfolding answerTo
 open-or-other pair n m t Request.openBook = inl refl
-open-or-other pair n m t (Request.edit e) = inr (record { not-fresh = refl; size = λ call k. refl; tables = refl; said = refl })
+open-or-other pair n m t (Request.edit caller e) = inr (record { not-fresh = refl; size = λ call k. refl; tables = refl; said = refl })
 open-or-other pair n m t (Request.find kind mark) = inr (record { not-fresh = refl; size = λ call k. refl; tables = refl; said = refl })
 open-or-other pair n m t (Request.parties kind mark) = inr (record { not-fresh = refl; size = λ call k. refl; tables = refl; said = refl })
 open-or-other pair n m t Request.inspect = inr (record { not-fresh = refl; size = λ call k. refl; tables = refl; said = refl })

@@ -11,11 +11,12 @@ use Prim.Native.Nat.{ℕ}
 use lib.Dec.{eqb}
 use lib.ListN.{replicate}
 use Rattle.tables.specs.Books.{run}
-use Rattle.tables.specs.Tables.{lent, tallies}
+use Rattle.tables.specs.Caller.{callers}
+use Rattle.tables.specs.Tables.{lent}
 use Rattle.session.specs.Line.{Book, lineOf}
 
 abbrev pub start : Book
-start = record { n = 0; m = 0; tables = lent [] [] [] (replicate tallies 0) }
+start = record { n = 0; m = 0; tables = lent [] [] [] (replicate callers 0) }
 
 abbrev pub bookAfter : Book → List (List ℕ) → Book
 bookAfter b lines = run (λ line book. lineOf book line .book) lines b

@@ -26,6 +26,7 @@ use Rattle.tables.specs.Reply.{Reply, refused, given, Finding}
 use Rattle.tables.specs.Tables.{Tables, shaped}
 use Rattle.tables.proofs.CallLaws.{check-cases}
 use Rattle.tables.proofs.ShapeLaws.{sized-facts}
+use Rattle.requests.specs.Requests.{program}
 use Rattle.session.specs.declared.Turned.{Turned}
 use Rattle.session.specs.Line.{Book, carries, turnOf, lineOf}
 use Rattle.session.specs.Parts.{bookIn, Answered}
@@ -117,10 +118,10 @@ find-short n m t kind mark =
 turn-short : (b : Book) (form : Form) → length (turnOf b form .printed) ≤ 16
 unfolding turnOf carries answerTo
 turn-short b (openBook n m) = open-short n m (zeros n m)
-turn-short b (addRule kind mark handling) = edited-short (editOutcome (b .n) (b .m) (b .tables) (Edit.addRule kind mark handling) .reply)
-turn-short b (takeRule kind mark) = edited-short (editOutcome (b .n) (b .m) (b .tables) (Edit.takeRule kind mark) .reply)
-turn-short b (addLink child parent) = edited-short (editOutcome (b .n) (b .m) (b .tables) (Edit.addLink child parent) .reply)
-turn-short b (takeLink child parent) = edited-short (editOutcome (b .n) (b .m) (b .tables) (Edit.takeLink child parent) .reply)
+turn-short b (addRule kind mark handling) = edited-short (editOutcome (b .n) (b .m) (b .tables) program (Edit.addRule kind mark handling) .reply)
+turn-short b (takeRule kind mark) = edited-short (editOutcome (b .n) (b .m) (b .tables) program (Edit.takeRule kind mark) .reply)
+turn-short b (addLink child parent) = edited-short (editOutcome (b .n) (b .m) (b .tables) program (Edit.addLink child parent) .reply)
+turn-short b (takeLink child parent) = edited-short (editOutcome (b .n) (b .m) (b .tables) program (Edit.takeLink child parent) .reply)
 turn-short b (find kind mark) = find-short (b .n) (b .m) (b .tables) kind mark
 turn-short b bad = refused-short 12
 

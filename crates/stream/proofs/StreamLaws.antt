@@ -15,7 +15,8 @@ use lib.Dec.{eqb, leb}
 use lib.ListN.{length, take, replicate, length-take}
 use lib.Seq.{take-all, length-take-le}
 use Rattle.tables.specs.Books.{run}
-use Rattle.tables.specs.Tables.{Tables, lent, tallies}
+use Rattle.tables.specs.Caller.{callers}
+use Rattle.tables.specs.Tables.{Tables, lent}
 use Rattle.forms.specs.Forms.{formOf}
 use Rattle.forms.proofs.FormLaws.{form-long}
 use Rattle.session.specs.Line.{Book, Turn, lineOf, turnOf}
@@ -188,6 +189,6 @@ streaming (works {s = s} {t = t} {carry = carry} {block = block} done next) =
 
 -- from the first block on
 pub streaming-is-session : {s : State} {links rules entries carry : List ℕ} {blocks : List (List ℕ)} {output : List ℕ} → Fresh s
-    → Streaming s (lent links rules entries (replicate tallies 0)) carry blocks output → output ≡ session (flatten blocks)
+    → Streaming s (lent links rules entries (replicate callers 0)) carry blocks output → output ≡ session (flatten blocks)
 streaming-is-session {s} {links} {rules} {entries} {carry} {blocks} fresh all =
     streaming all ∙ rw (fresh .book links rules entries, fresh .carried) (stream-is-session blocks)

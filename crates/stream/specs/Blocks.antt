@@ -10,7 +10,8 @@ use mathlib.Core.List.{List, [], _∷_, _++_}
 use Prim.Native.Nat.{ℕ}
 use lib.ListN.{length, take, replicate}
 use Rattle.buffers.specs.Buffers.{Put}
-use Rattle.tables.specs.Tables.{Tables, lent, tallies}
+use Rattle.tables.specs.Caller.{callers}
+use Rattle.tables.specs.Tables.{Tables, lent}
 use Rattle.session.specs.Line.{Book, Turn}
 use Rattle.session.specs.Parts.{bookIn}
 use Rattle.session.specs.Session.{start}
@@ -37,7 +38,7 @@ pub record Closed (p : Passed) (out : List ℕ) (waiting : ℕ) (after : Tables)
   pub output : Put (p .output) out 0 waiting out-after
 
 pub record Fresh (r : State) : Type 0 where
-  pub book : (links rules entries : List ℕ) → held r (lent links rules entries (replicate tallies 0)) ≡ start
+  pub book : (links rules entries : List ℕ) → held r (lent links rules entries (replicate callers 0)) ≡ start
   pub carried : r .carried ≡ 0
 
 -- what a block or the close puts at the front of the output is written before the next block

@@ -68,7 +68,7 @@ module _ {n m : ℕ} {t : Tables} (s : Consistent n m t) where
 
 -- ---- an empty book is such a one
 
-zeros-at : (k i : ℕ) → _≡_ {A = ℕ} (getD (replicate k 0) i 0) 0
+pub zeros-at : (k i : ℕ) → _≡_ {A = ℕ} (getD (replicate k 0) i 0) 0
 zeros-at zero i = refl
 zeros-at (suc k) zero = refl
 zeros-at (suc k) (suc i) = zeros-at k i
@@ -138,48 +138,48 @@ module _ (n m : ℕ) (t : Tables) (s : Consistent n m t) where
   abbrev Stays : Tables → Type 0
   Stays = Consistent n m
 
-  accepted-consistent : (n′ m′ : ℕ) (links rules : List ℕ) → shaped n′ m′ t ≡ true → length links ≡ length (t .links) → length rules ≡ length (t .rules)
-      → ((i : ℕ) → i < n′ * n′ → getD links i 0 ≤ 1) → Acyclic n′ (upOf n′ links) → Stays (calls.accepted n′ m′ t links rules .tables)
+  accepted-consistent : (n′ m′ by : ℕ) (links rules : List ℕ) → shaped n′ m′ t ≡ true → length links ≡ length (t .links) → length rules ≡ length (t .rules)
+      → ((i : ℕ) → i < n′ * n′ → getD links i 0 ≤ 1) → Acyclic n′ (upOf n′ links) → Stays (calls.accepted n′ m′ t by links rules .tables)
   unfolding calls.accepted
-  accepted-consistent n′ m′ links rules fits same-links same-rules = worked-anew n′ m′ links rules _ fits same-links same-rules (length-tallied 0 (t .tally))
+  accepted-consistent n′ m′ by links rules fits same-links same-rules = worked-anew n′ m′ links rules _ fits same-links same-rules (length-tallied by (t .tally))
 
   -- an edit of a rule keeps the links, whose bytes and chains were tested
-  rule-consistent : (n′ m′ place handling : ℕ) → shaped n′ m′ t ≡ true → sound n′ m′ t ≡ true
-      → Stays (calls.accepted n′ m′ t (t .links) (set (t .rules) place handling) .tables)
-  rule-consistent n′ m′ place handling fits is-sound =
+  rule-consistent : (n′ m′ by place handling : ℕ) → shaped n′ m′ t ≡ true → sound n′ m′ t ≡ true
+      → Stays (calls.accepted n′ m′ t by (t .links) (set (t .rules) place handling) .tables)
+  rule-consistent n′ m′ by place handling fits is-sound =
       let before = passed n′ m′ t fits is-sound .before in
-      accepted-consistent n′ m′ _ _ fits refl (length-set (t .rules) _ _) (before .bytes) (before .acyclic)
+      accepted-consistent n′ m′ by _ _ fits refl (length-set (t .rules) _ _) (before .bytes) (before .acyclic)
 
-  link-consistent : (n′ m′ c p byte : ℕ) → byte ≤ 1 → c < n′ → p < n′ → shaped n′ m′ t ≡ true → sound n′ m′ t ≡ true
-      → Acyclic n′ (upOf n′ (set (t .links) (c * n′ + p) byte)) → Stays (calls.accepted n′ m′ t (set (t .links) (c * n′ + p) byte) (t .rules) .tables)
-  link-consistent n′ m′ c p byte small hc hp fits is-sound acyclic =
-      accepted-consistent n′ m′ _ _ fits (length-set (t .links) _ _) refl (changed-bytes n′ m′ t (passed n′ m′ t fits is-sound) c p hc hp byte small) acyclic
+  link-consistent : (n′ m′ by c p byte : ℕ) → byte ≤ 1 → c < n′ → p < n′ → shaped n′ m′ t ≡ true → sound n′ m′ t ≡ true
+      → Acyclic n′ (upOf n′ (set (t .links) (c * n′ + p) byte)) → Stays (calls.accepted n′ m′ t by (set (t .links) (c * n′ + p) byte) (t .rules) .tables)
+  link-consistent n′ m′ by c p byte small hc hp fits is-sound acyclic =
+      accepted-consistent n′ m′ by _ _ fits (length-set (t .links) _ _) refl (changed-bytes n′ m′ t (passed n′ m′ t fits is-sound) c p hc hp byte small) acyclic
 
-  edit-consistent : (n′ m′ : ℕ) (e : Edit) → Stays (editOutcome n′ m′ t e .tables)
+  edit-consistent : (n′ m′ by : ℕ) (e : Edit) → Stays (editOutcome n′ m′ t by e .tables)
   unfolding editOutcome calls.addRule calls.takeRule calls.addLink calls.takeLink
-  edit-consistent n′ m′ (addRule k j h) =
-      check-holds 1 t _ Stays _ s λ fits. check-holds 2 t _ Stays _ s λ _. check-holds 3 t _ Stays _ s λ _.
-      check-holds 4 t _ Stays _ s λ _. check-holds 5 t _ Stays _ s λ is-sound. rule-consistent n′ m′ _ _ fits is-sound
-  edit-consistent n′ m′ (takeRule k j) =
-      check-holds 1 t _ Stays _ s λ fits. check-holds 2 t _ Stays _ s λ _. check-holds 3 t _ Stays _ s λ _.
-      check-holds 5 t _ Stays _ s λ is-sound. check-holds 6 t _ Stays _ s λ _. rule-consistent n′ m′ _ _ fits is-sound
-  edit-consistent n′ m′ (addLink c p) =
-      check-holds 1 t _ Stays _ s λ fits. check-holds 2 t _ Stays _ s λ within. check-holds 5 t _ Stays _ s λ is-sound.
+  edit-consistent n′ m′ by (addRule k j h) =
+      check-holds 1 t _ Stays _ s λ fits. check-holds 13 t _ Stays _ s λ _. check-holds 2 t _ Stays _ s λ _. check-holds 3 t _ Stays _ s λ _.
+      check-holds 4 t _ Stays _ s λ _. check-holds 5 t _ Stays _ s λ is-sound. rule-consistent n′ m′ by _ _ fits is-sound
+  edit-consistent n′ m′ by (takeRule k j) =
+      check-holds 1 t _ Stays _ s λ fits. check-holds 13 t _ Stays _ s λ _. check-holds 2 t _ Stays _ s λ _. check-holds 3 t _ Stays _ s λ _.
+      check-holds 5 t _ Stays _ s λ is-sound. check-holds 6 t _ Stays _ s λ _. rule-consistent n′ m′ by _ _ fits is-sound
+  edit-consistent n′ m′ by (addLink c p) =
+      check-holds 1 t _ Stays _ s λ fits. check-holds 13 t _ Stays _ s λ _. check-holds 2 t _ Stays _ s λ within. check-holds 5 t _ Stays _ s λ is-sound.
       check-holds 7 t _ Stays _ s λ _. check-holds 9 t _ Stays _ s λ no-cycle.
       let (hc, hp) = both-below within in
-      link-consistent n′ m′ c p 1 (omega arith) hc hp fits is-sound (added-acyclic n′ m′ t (passed n′ m′ t fits is-sound) c p hc hp (not-true _ no-cycle))
-  edit-consistent n′ m′ (takeLink c p) =
-      check-holds 1 t _ Stays _ s λ fits. check-holds 2 t _ Stays _ s λ within. check-holds 5 t _ Stays _ s λ is-sound.
+      link-consistent n′ m′ by c p 1 (omega arith) hc hp fits is-sound (added-acyclic n′ m′ t (passed n′ m′ t fits is-sound) c p hc hp (not-true _ no-cycle))
+  edit-consistent n′ m′ by (takeLink c p) =
+      check-holds 1 t _ Stays _ s λ fits. check-holds 13 t _ Stays _ s λ _. check-holds 2 t _ Stays _ s λ within. check-holds 5 t _ Stays _ s λ is-sound.
       check-holds 8 t _ Stays _ s λ _.
       let (hc, hp) = both-below within in
-      link-consistent n′ m′ c p 0 (omega arith) hc hp fits is-sound (taken-acyclic n′ m′ t (passed n′ m′ t fits is-sound) c p hc hp)
+      link-consistent n′ m′ by c p 0 (omega arith) hc hp fits is-sound (taken-acyclic n′ m′ t (passed n′ m′ t fits is-sound) c p hc hp)
 
   request-consistent : (n′ m′ : ℕ) (r : Request) → Stays (answerTo (refused 0) n′ m′ t r .tables)
   unfolding answerTo calls.openBook calls.refresh
   request-consistent n′ m′ openBook = check-holds 1 t _ Stays _ s λ fits.
       let (n-same, m-same) = same-size n′ m′ fits in
       rw (n-same, m-same) (zeros-consistent n m t (s .lengths))
-  request-consistent n′ m′ (edit e) = edit-consistent n′ m′ e
+  request-consistent n′ m′ (edit by e) = edit-consistent n′ m′ by e
   request-consistent n′ m′ (find k j) = rw (find-keeps n′ m′ t k j) s
   request-consistent n′ m′ (parties k j) = s
   request-consistent n′ m′ inspect = rw (inspect-keeps n′ m′ t) s

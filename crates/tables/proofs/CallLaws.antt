@@ -62,29 +62,29 @@ module _ (n m : ℕ) (t : Tables) where
   unfolding calls.openBook
   refused-open = check-refused 1 t _ (shaped n m t) (never-refused tt t _)
 
-  refused-accepted : (links rules : List ℕ) (r : ℕ) → calls.accepted n m t links rules .reply ≡ refused r → calls.accepted n m t links rules .tables ≡ t
+  refused-accepted : (c : ℕ) (links rules : List ℕ) (r : ℕ) → calls.accepted n m t c links rules .reply ≡ refused r → calls.accepted n m t c links rules .tables ≡ t
   unfolding calls.accepted
-  refused-accepted links rules r e = absurd (given-not-refused _ r e)
+  refused-accepted c links rules r e = absurd (given-not-refused _ r e)
 
-  pub refused-addRule : (k j h r : ℕ) → calls.addRule n m t k j h .reply ≡ refused r → calls.addRule n m t k j h .tables ≡ t
+  pub refused-addRule : (by k j h r : ℕ) → calls.addRule n m t by k j h .reply ≡ refused r → calls.addRule n m t by k j h .tables ≡ t
   unfolding calls.addRule
-  refused-addRule k j h =
-      check-refused 1 t _ _ (check-refused 2 t _ _ (check-refused 3 t _ _ (check-refused 4 t _ _ (check-refused 5 t _ _ (refused-accepted _ _)))))
+  refused-addRule by k j h =
+      check-refused 1 t _ _ (check-refused 13 t _ _ (check-refused 2 t _ _ (check-refused 3 t _ _ (check-refused 4 t _ _ (check-refused 5 t _ _ (refused-accepted _ _ _))))))
 
-  pub refused-takeRule : (k j r : ℕ) → calls.takeRule n m t k j .reply ≡ refused r → calls.takeRule n m t k j .tables ≡ t
+  pub refused-takeRule : (by k j r : ℕ) → calls.takeRule n m t by k j .reply ≡ refused r → calls.takeRule n m t by k j .tables ≡ t
   unfolding calls.takeRule
-  refused-takeRule k j =
-      check-refused 1 t _ _ (check-refused 2 t _ _ (check-refused 3 t _ _ (check-refused 5 t _ _ (check-refused 6 t _ _ (refused-accepted _ _)))))
+  refused-takeRule by k j =
+      check-refused 1 t _ _ (check-refused 13 t _ _ (check-refused 2 t _ _ (check-refused 3 t _ _ (check-refused 5 t _ _ (check-refused 6 t _ _ (refused-accepted _ _ _))))))
 
-  pub refused-addLink : (c p r : ℕ) → calls.addLink n m t c p .reply ≡ refused r → calls.addLink n m t c p .tables ≡ t
+  pub refused-addLink : (by c p r : ℕ) → calls.addLink n m t by c p .reply ≡ refused r → calls.addLink n m t by c p .tables ≡ t
   unfolding calls.addLink
-  refused-addLink c p =
-      check-refused 1 t _ _ (check-refused 2 t _ _ (check-refused 5 t _ _ (check-refused 7 t _ _ (check-refused 9 t _ _ (refused-accepted _ _)))))
+  refused-addLink by c p =
+      check-refused 1 t _ _ (check-refused 13 t _ _ (check-refused 2 t _ _ (check-refused 5 t _ _ (check-refused 7 t _ _ (check-refused 9 t _ _ (refused-accepted _ _ _))))))
 
-  pub refused-takeLink : (c p r : ℕ) → calls.takeLink n m t c p .reply ≡ refused r → calls.takeLink n m t c p .tables ≡ t
+  pub refused-takeLink : (by c p r : ℕ) → calls.takeLink n m t by c p .reply ≡ refused r → calls.takeLink n m t by c p .tables ≡ t
   unfolding calls.takeLink
-  refused-takeLink c p =
-      check-refused 1 t _ _ (check-refused 2 t _ _ (check-refused 5 t _ _ (check-refused 8 t _ _ (refused-accepted _ _))))
+  refused-takeLink by c p =
+      check-refused 1 t _ _ (check-refused 13 t _ _ (check-refused 2 t _ _ (check-refused 5 t _ _ (check-refused 8 t _ _ (refused-accepted _ _ _)))))
 
   pub refused-refresh : (r : ℕ) → calls.refresh n m t .reply ≡ refused r → calls.refresh n m t .tables ≡ t
   unfolding calls.refresh

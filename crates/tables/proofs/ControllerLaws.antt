@@ -11,6 +11,7 @@ use lib.ListN.{length, getD}
 use Rattle.inheritance.specs.declared.Lookup.{Lookup}
 use Rattle.inheritance.specs.declared.Lookup.the-variants.{None, Rule, Dispute}
 use Rattle.inheritance.specs.Lookup.{lookup}
+use Rattle.tables.specs.Caller.{callers}
 use Rattle.tables.specs.Entry.{entryOf}
 use Rattle.tables.specs.Reply.{given}
 use Rattle.tables.specs.Tables.{Tables, shaped, sound, upOf, ownOf}
@@ -29,7 +30,7 @@ module _ (n m : ℕ) (t : Tables) where
         links-length = s .links-length;
         rules-length = joined-length 256 (t .rules) _ (omega arith);
         entries-length = joined-length 256 (t .entries) _ (omega arith);
-        tally-length = joined-length 65536 (words16 (t .tally)) _ (joined-length 256 (t .tally) 2 (s .tally-length));
+        tally-length = joined-length 65536 (words16 (t .tally)) _ (joined-length 256 (t .tally) (2 * callers) (s .tally-length));
       })
 
 -- the handling number of a lookup, where `rule o` is that of kind o; 0 where it is no rule

@@ -7,7 +7,7 @@
 --     changed-bytes                     every link byte is 0 or 1 after a link is added or taken
 --     added-acyclic, taken-acyclic      no kind is above itself after a link is added or taken
 -- Each says: only the stated place of rules or links changes; the tables are sound again; entries differ only where the edit can touch, which comes
--- out the same before and after; the count is the number of places whose entry differs; the tally counts one more.
+-- out the same before and after; the count is the number of places whose entry differs; of the tally only the caller's number moves.
 -- Assumes nothing.
 use mathlib.Core.Path.{_≡_, refl, sym, _∙_, ap, subst, fun-ext}
 use mathlib.Core.Logic.{_≢_, _↔_, _⊎_, inl, inr, ⊎-elim, by-cases}
@@ -27,9 +27,10 @@ use Rattle.inheritance.specs.Above.{Upto, Acyclic, above, count}
 use Rattle.inheritance.specs.Lookup.{Below, lookup}
 use Rattle.inheritance.proofs.AboveLaws.{SameBut, no-chain, upto-step, chain-above, link-acyclic, unlink-acyclic}
 use Rattle.inheritance.proofs.TouchLaws.{below-carries, upto-carries, rule-touched, link-keeps-parent, link-touched}
+use Rattle.tables.specs.Caller.{callers}
 use Rattle.tables.specs.Entry.{entryOf}
 use Rattle.tables.specs.Reply.{given}
-use Rattle.tables.specs.Tables.{Tables, shaped, LengthsOf, Sized, upOf, ownOf, entryAt, grid, entriesOf, sound, differing}
+use Rattle.tables.specs.Tables.{Tables, shaped, LengthsOf, Sized, upOf, ownOf, entryAt, grid, entriesOf, sound, differing, tallied}
 use Rattle.tables.specs.Touch.{RuleTouches, LinkTouches}
 use Rattle.tables.specs.Edit.{OnePlace, apart, Edited, RuleEdited, LinkEdited}
 use Rattle.tables.specs.Calls.{accepted, addRule, takeRule, addLink, takeLink}
@@ -53,10 +54,10 @@ none-of-0 None e = refl
 none-of-0 (Rule k) e = absurd (omega arith)
 none-of-0 (Dispute k) e = absurd (omega arith)
 
-accepted-count : (n m : ℕ) (t : Tables) (links rules : List ℕ) (returned : ℕ) → accepted n m t links rules .reply ≡ given returned
+accepted-count : (n m : ℕ) (t : Tables) (caller : ℕ) (links rules : List ℕ) (returned : ℕ) → accepted n m t caller links rules .reply ≡ given returned
     → returned ≡ differing (t .entries) (entriesOf n m (upOf n links) rules)
 unfolding accepted
-accepted-count n m t links rules returned is = cc
+accepted-count n m t caller links rules returned is = cc
 
 -- handling numbers play no part in the entries
 entriesOf-own : (n m : ℕ) (up : ℕ → ℕ → Bool) (rules rules′ : List ℕ) → ((j c : ℕ) → ownOf m rules j c ≡ ownOf m rules′ j c)
@@ -68,9 +69,9 @@ entriesOf-own n m up rules rules′ same =
 module _ (n m : ℕ) (t : Tables) (size : length (t .entries) ≡ n * m) (before : Sound n m t) where
   -- ---- an accepted edit with these links and rules
 
-  module _ (links rules : List ℕ) (returned : ℕ) (is : accepted n m t links rules .reply ≡ given returned) where
+  module _ (caller : ℕ) (links rules : List ℕ) (returned : ℕ) (is : accepted n m t caller links rules .reply ≡ given returned) where
     abbrev after : Tables
-    after = accepted n m t links rules .tables
+    after = accepted n m t caller links rules .tables
 
     entry-before : (k j : ℕ) → k < n → j < m → getD (t .entries) (k * m + j) 0 ≡ entryAt n m (upOf n (t .links)) (t .rules) k j
     entry-before = entries-looked n m (upOf n (t .links)) (t .rules) (t .entries) (before .entries)
@@ -85,19 +86,19 @@ module _ (n m : ℕ) (t : Tables) (size : length (t .entries) ≡ n * m) (before
     unfolding entryAt
     lookups-differ k j hk hj differ same = differ (entry-before k j hk hj ∙ ap entryOf same ∙ sym (entry-after k j hk hj))
 
-    accepted-edits : (Touches : Tables → ℕ → ℕ → Type 0)
+    accepted-edits : (Touches : Tables → ℕ → ℕ → Type 0) → caller < length (t .tally)
         → ((i : ℕ) → i < n * n → getD links i 0 ≤ 1) → Acyclic n (upOf n links)
         → ((k j : ℕ) → k < n → j < m → getD (t .entries) (k * m + j) 0 ≢ getD (after .entries) (k * m + j) 0 → Touches t k j)
         → ((k j : ℕ) → k < n → j < m → Touches t k j ↔ Touches after k j)
-        → Edited n m Touches t after returned
-    unfolding accepted
-    accepted-edits Touches bytes acyclic touched same-reading = record {
+        → Edited n m caller Touches t after returned
+    unfolding accepted tallied
+    accepted-edits Touches counts bytes acyclic touched same-reading = record {
       sound-after = means-sound n m after (length-entriesOf n m (upOf n links) rules) (record { bytes = bytes; acyclic = acyclic; entries = refl });
-      tally-after = refl;
+      tally-changed = set-one (t .tally) caller _ counts;
       touched = touched;
       same-reading = same-reading;
       counted =
-          accepted-count n m t links rules returned is
+          accepted-count n m t caller links rules returned is
           ∙ differing-count (t .entries) (entriesOf n m (upOf n links) rules) (size ∙ sym (length-entriesOf n m (upOf n links) rules))
           ∙ ap (λ (x : ℕ). count (apart (t .entries) (entriesOf n m (upOf n links) rules)) x) size;
     }
@@ -114,23 +115,23 @@ module _ (n m : ℕ) (t : Tables) (size : length (t .entries) ≡ n * m) (before
         (λ same. let (same-kind, same-mark) = place-split {k = c} {k′ = kind} hj mark-in same in
         ⊎-elim (λ ne. ne same-kind) (λ ne. ne same-mark) elsewhere)))
 
-    pub rule-edits : (returned : ℕ) → accepted n m t (t .links) ruled .reply ≡ given returned
-        → RuleEdited n m kind mark handling t (accepted n m t (t .links) ruled .tables) returned
+    pub rule-edits : (caller : ℕ) → caller < length (t .tally) → (returned : ℕ) → accepted n m t caller (t .links) ruled .reply ≡ given returned
+        → RuleEdited n m caller kind mark handling t (accepted n m t caller (t .links) ruled .tables) returned
     unfolding accepted
-    rule-edits returned is = record {
+    rule-edits caller counts returned is = record {
       links-kept = refl;
       rule-changed = set-one (t .rules) (kind * m + mark) handling (rw rules-size (digits-lt kind-in mark-in));
       below-same = below-same;
-      edited = accepted-edits (t .links) ruled returned is (RuleTouches n m kind mark) (before .bytes) (before .acyclic) touched same-reading;
+      edited = accepted-edits caller (t .links) ruled returned is (RuleTouches n m kind mark) counts (before .bytes) (before .acyclic) touched same-reading;
     }
       where
         up : ℕ → ℕ → Bool
         up = upOf n (t .links)
 
-        touched : (k j : ℕ) → k < n → j < m → getD (t .entries) (k * m + j) 0 ≢ getD (accepted n m t (t .links) ruled .tables .entries) (k * m + j) 0
+        touched : (k j : ℕ) → k < n → j < m → getD (t .entries) (k * m + j) 0 ≢ getD (accepted n m t caller (t .links) ruled .tables .entries) (k * m + j) 0
             → RuleTouches n m kind mark t k j
         touched k j hk hj differ =
-            let apart = lookups-differ (t .links) ruled returned is k j hk hj differ in
+            let apart = lookups-differ caller (t .links) ruled returned is k j hk hj differ in
             record {
               below = rule-touched n up (before .acyclic) (ownOf m (t .rules) j) (ownOf m ruled j) kind (λ c hc ne. own-kept j c hj (inl ne)) kind-in k hk apart .0;
               the-mark = by-cases (ℕ-discrete j mark) (λ same. same)
@@ -143,7 +144,7 @@ module _ (n m : ℕ) (t : Tables) (size : length (t .entries) ≡ n * m) (before
           below-carries n up up (ownOf m ruled j) (ownOf m (t .rules) j) kind (λ c p hc hp ne. refl) (λ c hc ne. sym (own-kept j c hj (inl ne))) hk,
         )
 
-        same-reading : (k j : ℕ) → k < n → j < m → RuleTouches n m kind mark t k j ↔ RuleTouches n m kind mark (accepted n m t (t .links) ruled .tables) k j
+        same-reading : (k j : ℕ) → k < n → j < m → RuleTouches n m kind mark t k j ↔ RuleTouches n m kind mark (accepted n m t caller (t .links) ruled .tables) k j
         same-reading k j hk hj = (
           λ r. record { below = below-same k j hk hj .0 (r .below); the-mark = r .the-mark },
           λ r. record { below = below-same k j hk hj .1 (r .below); the-mark = r .the-mark },
@@ -176,16 +177,16 @@ module _ (n m : ℕ) (t : Tables) (size : length (t .entries) ≡ n * m) (before
 
     -- `apart`: before the edit the parent is not the child, nor below it
     module _ (acyclic : Acyclic n (upOf n linked)) (apart : ¬ Upto n (upOf n (t .links)) parent child) where
-      pub link-edits : (returned : ℕ) → accepted n m t linked (t .rules) .reply ≡ given returned
-          → LinkEdited n m child parent byte t (accepted n m t linked (t .rules) .tables) returned
+      pub link-edits : (caller : ℕ) → caller < length (t .tally) → (returned : ℕ) → accepted n m t caller linked (t .rules) .reply ≡ given returned
+          → LinkEdited n m caller child parent byte t (accepted n m t caller linked (t .rules) .tables) returned
       unfolding accepted entryAt
-      link-edits returned is = record {
+      link-edits caller counts returned is = record {
         rules-kept = refl;
         link-changed = set-one (t .links) (child * n + parent) byte (rw links-size (digits-lt child-in parent-in));
         below-same = below-same;
         own-rule-same = λ k j. refl;
         parent-entry-same = parent-kept;
-        edited = accepted-edits linked (t .rules) returned is (LinkTouches n m child parent) bytes-after acyclic touched same-reading;
+        edited = accepted-edits caller linked (t .rules) returned is (LinkTouches n m child parent) counts bytes-after acyclic touched same-reading;
       }
         where
           up : ℕ → ℕ → Bool
@@ -200,27 +201,27 @@ module _ (n m : ℕ) (t : Tables) (size : length (t .entries) ≡ n * m) (before
           same-up : (c p : ℕ) → c < n → p < n → c ≢ child → up c p ≡ up′ c p
           same-up c p hc hp ne = up-kept c p hp (inl ne)
 
-          parent-kept : (j : ℕ) → j < m → getD (t .entries) (parent * m + j) 0 ≡ getD (accepted n m t linked (t .rules) .tables .entries) (parent * m + j) 0
+          parent-kept : (j : ℕ) → j < m → getD (t .entries) (parent * m + j) 0 ≡ getD (accepted n m t caller linked (t .rules) .tables .entries) (parent * m + j) 0
           parent-kept j hj =
-              entry-before linked (t .rules) returned is parent j parent-in hj
+              entry-before caller linked (t .rules) returned is parent j parent-in hj
               ∙ ap entryOf (link-keeps-parent n up up′ (own j) (before .acyclic) acyclic child parent same-but child-in parent-in apart)
-              ∙ sym (entry-after linked (t .rules) returned is parent j parent-in hj)
+              ∙ sym (entry-after caller linked (t .rules) returned is parent j parent-in hj)
 
-          touched : (k j : ℕ) → k < n → j < m → getD (t .entries) (k * m + j) 0 ≢ getD (accepted n m t linked (t .rules) .tables .entries) (k * m + j) 0
+          touched : (k j : ℕ) → k < n → j < m → getD (t .entries) (k * m + j) 0 ≢ getD (accepted n m t caller linked (t .rules) .tables .entries) (k * m + j) 0
               → LinkTouches n m child parent t k j
           touched k j hk hj differ =
               let (below, bare, some) = link-touched n up up′ (own j) (before .acyclic) acyclic child parent same-but child-in parent-in apart k hk
-              (lookups-differ linked (t .rules) returned is k j hk hj differ) in
+              (lookups-differ caller linked (t .rules) returned is k j hk hj differ) in
               record {
                 below = below;
                 no-own-rule = bare;
-                parent-entry = λ zero. some (none-of-0 _ (omega (arith, entry-before linked (t .rules) returned is parent j parent-in hj, zero)));
+                parent-entry = λ zero. some (none-of-0 _ (omega (arith, entry-before caller linked (t .rules) returned is parent j parent-in hj, zero)));
               }
 
           below-same : (k : ℕ) → k < n → Upto n up k child ↔ Upto n up′ k child
           below-same k hk = (upto-carries n up up′ child same-up hk, upto-carries n up′ up child (λ c p hc hp ne. sym (same-up c p hc hp ne)) hk)
 
-          same-reading : (k j : ℕ) → k < n → j < m → LinkTouches n m child parent t k j ↔ LinkTouches n m child parent (accepted n m t linked (t .rules) .tables) k j
+          same-reading : (k j : ℕ) → k < n → j < m → LinkTouches n m child parent t k j ↔ LinkTouches n m child parent (accepted n m t caller linked (t .rules) .tables) k j
           same-reading k j hk hj = (
             λ r. record {
               below = below-same k hk .0 (r .below);
@@ -239,9 +240,9 @@ pub untouched-none : (n m child parent : ℕ) (t : Tables) (k j : ℕ) → getD 
 untouched-none n m child parent t k j zero touches = touches .parent-entry (omega (arith, zero))
 
 -- .. and so no entry of that mark changes
-pub none-kept : (n m child parent byte : ℕ) (t t′ : Tables) (returned : ℕ) → LinkEdited n m child parent byte t t′ returned
+pub none-kept : (n m caller child parent byte : ℕ) (t t′ : Tables) (returned : ℕ) → LinkEdited n m caller child parent byte t t′ returned
     → (k j : ℕ) → k < n → j < m → getD (t .entries) (parent * m + j) 0 ≡ 0 → getD (t .entries) (k * m + j) 0 ≡ getD (t′ .entries) (k * m + j) 0
-none-kept n m child parent byte t t′ returned e k j hk hj zero = by-cases (ℕ-discrete (getD (t .entries) (k * m + j) 0) (getD (t′ .entries) (k * m + j) 0))
+none-kept n m caller child parent byte t t′ returned e k j hk hj zero = by-cases (ℕ-discrete (getD (t .entries) (k * m + j) 0) (getD (t′ .entries) (k * m + j) 0))
     (λ same. same) (λ differ. absurd (untouched-none n m child parent t k j zero (e .edited .touched k j hk hj differ)))
 
 -- ---- the four edits
@@ -257,6 +258,10 @@ passed n m t fits is-sound =
     let s = sized-facts 1 1 n m _ _ _ _ fits in
     let sizes = shape-sized n m t s in
     record { lengths = s; sizes = sizes; before = sound-means n m t (sizes .entries-size) is-sound }
+
+-- a caller that has a number of the tally
+numbered : {n m : ℕ} {t : Tables} {caller : ℕ} → Passed n m t → ltb caller callers ≡ true → caller < length (t .tally)
+numbered {caller = caller} s known = omega (arith, ltb-true caller callers known, s .lengths .tally-length)
 
 or-false : (a : Bool) {b : Bool} → (a || b) ≡ false → (a ≡ false) × (b ≡ false)
 or-false true e = absurd (true≢false e)
@@ -281,74 +286,74 @@ module _ (n m : ℕ) (t : Tables) (s : Passed n m t) (child parent : ℕ) (child
   taken-acyclic = unlink-acyclic n (upOf n (t .links)) _ child parent (changed-but 0 (omega arith)) (changed-there 0 (omega arith)) (s .before .acyclic)
 
 module _ (n m : ℕ) (t : Tables) where
-  pub addRule-edits : (kind mark handling returned : ℕ) → addRule n m t kind mark handling .reply ≡ given returned
-      → RuleEdited n m kind mark handling t (addRule n m t kind mark handling .tables) returned
+  pub addRule-edits : (caller kind mark handling returned : ℕ) → addRule n m t caller kind mark handling .reply ≡ given returned
+      → RuleEdited n m caller kind mark handling t (addRule n m t caller kind mark handling .tables) returned
   unfolding addRule
-  addRule-edits kind mark handling returned =
-      let P : Tables → Type 0 = λ t′. RuleEdited n m kind mark handling t t′ returned in
-      check-given 1 t _ P _ λ fits. check-given 2 t _ P _ λ kind-in. check-given 3 t _ P _ λ mark-in. check-given 4 t _ P _ λ _.
+  addRule-edits caller kind mark handling returned =
+      let P : Tables → Type 0 = λ t′. RuleEdited n m caller kind mark handling t t′ returned in
+      check-given 1 t _ P _ λ fits. check-given 13 t _ P _ λ known. check-given 2 t _ P _ λ kind-in. check-given 3 t _ P _ λ mark-in. check-given 4 t _ P _ λ _.
       check-given 5 t _ P _ λ is-sound is.
       let s = passed n m t fits is-sound in
-      rule-edits n m t (s .sizes .entries-size) (s .before) kind mark handling (ltb-true _ _ kind-in) (ltb-true _ _ mark-in) (s .sizes .rules-size) returned is
+      rule-edits n m t (s .sizes .entries-size) (s .before) kind mark handling (ltb-true _ _ kind-in) (ltb-true _ _ mark-in) (s .sizes .rules-size) caller (numbered s known) returned is
 
-  pub takeRule-edits : (kind mark returned : ℕ) → takeRule n m t kind mark .reply ≡ given returned
-      → RuleEdited n m kind mark 0 t (takeRule n m t kind mark .tables) returned
+  pub takeRule-edits : (caller kind mark returned : ℕ) → takeRule n m t caller kind mark .reply ≡ given returned
+      → RuleEdited n m caller kind mark 0 t (takeRule n m t caller kind mark .tables) returned
   unfolding takeRule
-  takeRule-edits kind mark returned =
-      let P : Tables → Type 0 = λ t′. RuleEdited n m kind mark 0 t t′ returned in
-      check-given 1 t _ P _ λ fits. check-given 2 t _ P _ λ kind-in. check-given 3 t _ P _ λ mark-in. check-given 5 t _ P _ λ is-sound.
+  takeRule-edits caller kind mark returned =
+      let P : Tables → Type 0 = λ t′. RuleEdited n m caller kind mark 0 t t′ returned in
+      check-given 1 t _ P _ λ fits. check-given 13 t _ P _ λ known. check-given 2 t _ P _ λ kind-in. check-given 3 t _ P _ λ mark-in. check-given 5 t _ P _ λ is-sound.
       check-given 6 t _ P _ λ _ is.
       let s = passed n m t fits is-sound in
-      rule-edits n m t (s .sizes .entries-size) (s .before) kind mark 0 (ltb-true _ _ kind-in) (ltb-true _ _ mark-in) (s .sizes .rules-size) returned is
+      rule-edits n m t (s .sizes .entries-size) (s .before) kind mark 0 (ltb-true _ _ kind-in) (ltb-true _ _ mark-in) (s .sizes .rules-size) caller (numbered s known) returned is
 
-  pub addLink-edits : (child parent returned : ℕ) → addLink n m t child parent .reply ≡ given returned
-      → LinkEdited n m child parent 1 t (addLink n m t child parent .tables) returned
+  pub addLink-edits : (caller child parent returned : ℕ) → addLink n m t caller child parent .reply ≡ given returned
+      → LinkEdited n m caller child parent 1 t (addLink n m t caller child parent .tables) returned
   unfolding addLink
-  addLink-edits child parent returned =
-      let P : Tables → Type 0 = λ t′. LinkEdited n m child parent 1 t t′ returned in
-      check-given 1 t _ P _ λ fits. check-given 2 t _ P _ λ kinds-in. check-given 5 t _ P _ λ is-sound. check-given 7 t _ P _ λ _.
+  addLink-edits caller child parent returned =
+      let P : Tables → Type 0 = λ t′. LinkEdited n m caller child parent 1 t t′ returned in
+      check-given 1 t _ P _ λ fits. check-given 13 t _ P _ λ known. check-given 2 t _ P _ λ kinds-in. check-given 5 t _ P _ λ is-sound. check-given 7 t _ P _ λ _.
       check-given 9 t _ P _ λ no-cycle is.
       let s = passed n m t fits is-sound in
       let (child-in, parent-in) = and-eq-true-iff (ltb child n) _ .0 kinds-in in
-      go (ltb-true _ _ child-in) (ltb-true _ _ parent-in) s (not-true _ no-cycle) is
+      go (numbered s known) (ltb-true _ _ child-in) (ltb-true _ _ parent-in) s (not-true _ no-cycle) is
     where
-      go : child < n → parent < n → Passed n m t → (eqb parent child || above n (upOf n (t .links)) parent child) ≡ false
-          → accepted n m t (set (t .links) (child * n + parent) 1) (t .rules) .reply ≡ given returned
-          → LinkEdited n m child parent 1 t (accepted n m t (set (t .links) (child * n + parent) 1) (t .rules) .tables) returned
-      go child-in parent-in s no-cycle is =
+      go : caller < length (t .tally) → child < n → parent < n → Passed n m t → (eqb parent child || above n (upOf n (t .links)) parent child) ≡ false
+          → accepted n m t caller (set (t .links) (child * n + parent) 1) (t .rules) .reply ≡ given returned
+          → LinkEdited n m caller child parent 1 t (accepted n m t caller (set (t .links) (child * n + parent) 1) (t .rules) .tables) returned
+      go counts child-in parent-in s no-cycle is =
           link-edits n m t (s .sizes .entries-size) (s .before) child parent 1 child-in parent-in (s .lengths .links-length) (omega arith)
-          (added-acyclic n m t s child parent child-in parent-in no-cycle) apart returned is
+          (added-acyclic n m t s child parent child-in parent-in no-cycle) apart caller counts returned is
         where
           apart : ¬ Upto n (upOf n (t .links)) parent child
           apart =
               let (ne, free) = or-false (eqb parent child) no-cycle in
               ⊎-elim (eqb-false _ _ ne) (λ chain. true≢false (sym (chain-above n (upOf n (t .links)) chain) ∙ free))
 
-  pub takeLink-edits : (child parent returned : ℕ) → takeLink n m t child parent .reply ≡ given returned
-      → LinkEdited n m child parent 0 t (takeLink n m t child parent .tables) returned
+  pub takeLink-edits : (caller child parent returned : ℕ) → takeLink n m t caller child parent .reply ≡ given returned
+      → LinkEdited n m caller child parent 0 t (takeLink n m t caller child parent .tables) returned
   unfolding takeLink
-  takeLink-edits child parent returned =
-      let P : Tables → Type 0 = λ t′. LinkEdited n m child parent 0 t t′ returned in
-      check-given 1 t _ P _ λ fits. check-given 2 t _ P _ λ kinds-in. check-given 5 t _ P _ λ is-sound. check-given 8 t _ P _ λ there is.
+  takeLink-edits caller child parent returned =
+      let P : Tables → Type 0 = λ t′. LinkEdited n m caller child parent 0 t t′ returned in
+      check-given 1 t _ P _ λ fits. check-given 13 t _ P _ λ known. check-given 2 t _ P _ λ kinds-in. check-given 5 t _ P _ λ is-sound. check-given 8 t _ P _ λ there is.
       let s = passed n m t fits is-sound in
       let (child-in, parent-in) = and-eq-true-iff (ltb child n) _ .0 kinds-in in
-      go (ltb-true _ _ child-in) (ltb-true _ _ parent-in) s there is
+      go (numbered s known) (ltb-true _ _ child-in) (ltb-true _ _ parent-in) s there is
     where
-      go : child < n → parent < n → Passed n m t → upOf n (t .links) child parent ≡ true
-          → accepted n m t (set (t .links) (child * n + parent) 0) (t .rules) .reply ≡ given returned
-          → LinkEdited n m child parent 0 t (accepted n m t (set (t .links) (child * n + parent) 0) (t .rules) .tables) returned
-      go child-in parent-in s there is =
+      go : caller < length (t .tally) → child < n → parent < n → Passed n m t → upOf n (t .links) child parent ≡ true
+          → accepted n m t caller (set (t .links) (child * n + parent) 0) (t .rules) .reply ≡ given returned
+          → LinkEdited n m caller child parent 0 t (accepted n m t caller (set (t .links) (child * n + parent) 0) (t .rules) .tables) returned
+      go counts child-in parent-in s there is =
           link-edits n m t (s .sizes .entries-size) (s .before) child parent 0 child-in parent-in (s .lengths .links-length) (omega arith)
           (taken-acyclic n m t s child parent child-in parent-in)
-          (λ round. no-chain n (upOf n (t .links)) (s .before .acyclic) child-in (upto-step n (upOf n (t .links)) parent-in there round)) returned is
+          (λ round. no-chain n (upOf n (t .links)) (s .before .acyclic) child-in (upto-step n (upOf n (t .links)) parent-in there round)) caller counts returned is
 
   -- with another handling number every kind has the own rules it had, and so every lookup is the same
-  pub replaced-none : (kind mark handling returned : ℕ) → ownOf m (t .rules) mark kind ≡ true
-      → addRule n m t kind mark handling .reply ≡ given returned → returned ≡ 0
+  pub replaced-none : (caller kind mark handling returned : ℕ) → ownOf m (t .rules) mark kind ≡ true
+      → addRule n m t caller kind mark handling .reply ≡ given returned → returned ≡ 0
   unfolding addRule
-  replaced-none kind mark handling returned has =
+  replaced-none caller kind mark handling returned has =
       let P : Tables → Type 0 = λ _. returned ≡ 0 in
-      check-given 1 t _ P _ λ fits. check-given 2 t _ P _ λ kind-in. check-given 3 t _ P _ λ mark-in. check-given 4 t _ P _ λ some.
+      check-given 1 t _ P _ λ fits. check-given 13 t _ P _ λ _. check-given 2 t _ P _ λ kind-in. check-given 3 t _ P _ λ mark-in. check-given 4 t _ P _ λ some.
       check-given 5 t _ P _ λ is-sound. go (passed n m t fits is-sound) (ltb-true _ _ kind-in) (ltb-true _ _ mark-in) (eqb-false _ _ (not-true _ some))
     where
       place : ℕ
@@ -360,8 +365,8 @@ module _ (n m : ℕ) (t : Tables) where
           (rw (getD-set-same (t .rules) place handling 0 (rw (s .sizes .rules-size) (digits-lt kind-in mark-in)), ne-eqb handling 0 some) (sym has)))
           (λ ne. ap (λ (x : ℕ). not (eqb x 0)) (getD-set-other (t .rules) place (c * m + j) handling 0 ne))
 
-      go : Passed n m t → kind < n → mark < m → handling ≢ 0 → accepted n m t (t .links) (set (t .rules) place handling) .reply ≡ given returned → returned ≡ 0
+      go : Passed n m t → kind < n → mark < m → handling ≢ 0 → accepted n m t caller (t .links) (set (t .rules) place handling) .reply ≡ given returned → returned ≡ 0
       go s kind-in mark-in some is =
-          accepted-count n m t (t .links) (set (t .rules) place handling) returned is
+          accepted-count n m t caller (t .links) (set (t .rules) place handling) returned is
           ∙ ap (differing (t .entries)) (entriesOf-own n m (upOf n (t .links)) _ _ (own-same s kind-in mark-in some) ∙ sym (s .before .entries))
           ∙ differing-self (t .entries)

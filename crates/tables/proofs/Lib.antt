@@ -2,6 +2,7 @@
 pub mod BookLaws
 pub mod ByteLaws
 pub mod CallLaws
+pub mod CallerLaws
 pub mod ControllerLaws
 pub mod EditLaws
 pub mod EntryLaws

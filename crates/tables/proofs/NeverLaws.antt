@@ -55,19 +55,19 @@ module _ {A : Type 0} (number : ℕ) (t : Tables) (next : Outcome A) (b : Bool) 
 -- ---- calls
 
 module _ (n m : ℕ) (t : Tables) (right : shaped n m t ≡ true → sound n m t ≡ true) where
-  edit-never : (e : Edit) → Never (editOutcome n m t e .reply)
+  edit-never : (by : ℕ) (e : Edit) → Never (editOutcome n m t by e .reply)
   unfolding editOutcome calls.addRule calls.takeRule calls.addLink calls.takeLink calls.accepted
-  edit-never (addRule k j h) =
-      past 1 t _ _ refl refl λ fits. past 2 t _ _ refl refl λ _. past 3 t _ _ refl refl λ _. past 4 t _ _ refl refl λ _.
+  edit-never by (addRule k j h) =
+      past 1 t _ _ refl refl λ fits. past 13 t _ _ refl refl λ _. past 2 t _ _ refl refl λ _. past 3 t _ _ refl refl λ _. past 4 t _ _ refl refl λ _.
       through 5 t _ _ (right fits) (gives-never refl)
-  edit-never (takeRule k j) =
-      past 1 t _ _ refl refl λ fits. past 2 t _ _ refl refl λ _. past 3 t _ _ refl refl λ _. through 5 t _ _ (right fits)
+  edit-never by (takeRule k j) =
+      past 1 t _ _ refl refl λ fits. past 13 t _ _ refl refl λ _. past 2 t _ _ refl refl λ _. past 3 t _ _ refl refl λ _. through 5 t _ _ (right fits)
       (past 6 t _ _ refl refl λ _. gives-never refl)
-  edit-never (addLink c p) =
-      past 1 t _ _ refl refl λ fits. past 2 t _ _ refl refl λ _. through 5 t _ _ (right fits)
+  edit-never by (addLink c p) =
+      past 1 t _ _ refl refl λ fits. past 13 t _ _ refl refl λ _. past 2 t _ _ refl refl λ _. through 5 t _ _ (right fits)
       (past 7 t _ _ refl refl λ _. past 9 t _ _ refl refl λ _. gives-never refl)
-  edit-never (takeLink c p) =
-      past 1 t _ _ refl refl λ fits. past 2 t _ _ refl refl λ _. through 5 t _ _ (right fits) (past 8 t _ _ refl refl λ _. gives-never refl)
+  edit-never by (takeLink c p) =
+      past 1 t _ _ refl refl λ fits. past 13 t _ _ refl refl λ _. past 2 t _ _ refl refl λ _. through 5 t _ _ (right fits) (past 8 t _ _ refl refl λ _. gives-never refl)
 
   links-sound : shaped n m t ≡ true → links-right n (t .links) ≡ true
   links-sound fits =
@@ -91,7 +91,7 @@ module _ (n m : ℕ) (t : Tables) (right : shaped n m t ≡ true → sound n m t
   answer-never : (pair : Reply TwoKinds) (r : Request) → ((k j : ℕ) → r ≡ parties k j → PartiesGive n m t k j pair) → NeverIn (answerTo pair n m t r .answer)
   unfolding answerTo calls.openBook calls.find calls.inspect calls.refresh
   answer-never pair openBook may = past 1 t _ _ refl refl λ _. gives-never refl
-  answer-never pair (edit e) may = edit-never e
+  answer-never pair (edit by e) may = edit-never by e
   answer-never pair (find k j) may =
       past 1 t _ _ refl refl λ fits. past 2 t _ _ refl refl λ hk. past 3 t _ _ refl refl λ hj.
       gives-never (entry-found n m t k j fits (ltb-true _ _ hk) (ltb-true _ _ hj) (right fits))

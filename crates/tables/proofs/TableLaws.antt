@@ -150,18 +150,18 @@ saturated-next x h = rw (lt-ltb x 4294967295 h, saturated) refl
 pub saturated-full : (x : ℕ) → 4294967295 ≤ x → saturated x ≡ x
 saturated-full x h = rw (le-ltb x 4294967295 h, saturated) refl
 
-module _ (place : ℕ) (tally : List ℕ) where
-  pub tally-next : getD tally place 0 < 4294967295 → tallied place tally ≡ set tally place (getD tally place 0 + 1)
+module _ (caller : ℕ) (tally : List ℕ) where
+  pub tally-next : getD tally caller 0 < 4294967295 → tallied caller tally ≡ set tally caller (getD tally caller 0 + 1)
   unfolding tallied
-  tally-next h = ap (set tally place) (saturated-next (getD tally place 0) h)
+  tally-next h = ap (set tally caller) (saturated-next (getD tally caller 0) h)
 
-  pub tally-full : 4294967295 ≤ getD tally place 0 → tallied place tally ≡ tally
+  pub tally-full : 4294967295 ≤ getD tally caller 0 → tallied caller tally ≡ tally
   unfolding tallied
-  tally-full h = ap (set tally place) (saturated-full (getD tally place 0) h) ∙ set-getD tally place 0
+  tally-full h = ap (set tally caller) (saturated-full (getD tally caller 0) h) ∙ set-getD tally caller 0
 
-  pub length-tallied : length (tallied place tally) ≡ length tally
+  pub length-tallied : length (tallied caller tally) ≡ length tally
   unfolding tallied
-  length-tallied = length-set tally place _
+  length-tallied = length-set tally caller _
 
 -- ---- places
 

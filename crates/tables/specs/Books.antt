@@ -6,13 +6,14 @@
 --     Carried     what carrying out a call on tables gives
 --     callOf, answered     the call, and the answer, that the code's values stand for; editOf: the edit
 --     run         the state that a list of calls leaves: each call gets it as the call before left it
---     editsSince  the edits accepted since the book's last accepted open
+--     editsSince  a caller's edits accepted since the book's last accepted open
 --     Agree       every place of two tables holds the same number
 -- Assumes nothing.
 use mathlib.Core.Path.{_≡_}
 use mathlib.Core.Bool.{Bool, true, false}
 use mathlib.Core.List.{List, [], _∷_}
 use Prim.Native.Nat.{ℕ, _+_}
+use lib.Dec.{eqb}
 use lib.ListN.{getD}
 use Rattle.tables.specs.declared.Edit.{Edit as CodeEdit}
 use Rattle.tables.specs.declared.Request.{Request as CodeRequest}
@@ -31,7 +32,7 @@ pub data Edit : Type 0 where
 
 pub data Request : Type 0 where
   openBook : Request
-  edit : Edit → Request
+  edit : (caller : ℕ) → Edit → Request
   find : (kind mark : ℕ) → Request
   parties : (kind mark : ℕ) → Request
   inspect : Request
@@ -68,16 +69,16 @@ gives answer t = record { answer = answer; tables = t }
 abbrev pub told : {A : Type 0} → (Reply A → Answer) → Outcome A → Result
 told answer o = gives (answer (o .reply)) (o .tables)
 
-unfoldable pub editOutcome : (n m : ℕ) → Tables → Edit → Outcome ℕ
-editOutcome n m t (addRule kind mark handling) = calls.addRule n m t kind mark handling
-editOutcome n m t (takeRule kind mark) = calls.takeRule n m t kind mark
-editOutcome n m t (addLink child parent) = calls.addLink n m t child parent
-editOutcome n m t (takeLink child parent) = calls.takeLink n m t child parent
+unfoldable pub editOutcome : (n m : ℕ) → Tables → (caller : ℕ) → Edit → Outcome ℕ
+editOutcome n m t caller (addRule kind mark handling) = calls.addRule n m t caller kind mark handling
+editOutcome n m t caller (takeRule kind mark) = calls.takeRule n m t caller kind mark
+editOutcome n m t caller (addLink child parent) = calls.addLink n m t caller child parent
+editOutcome n m t caller (takeLink child parent) = calls.takeLink n m t caller child parent
 
 -- parties, whose answer is left open, gives `pair` and writes to no table
 unfoldable pub answerTo : (pair : Reply TwoKinds) → (n m : ℕ) → Tables → Request → Result
 answerTo pair n m t openBook = told opening (calls.openBook n m t)
-answerTo pair n m t (edit e) = told editing (editOutcome n m t e)
+answerTo pair n m t (edit caller e) = told editing (editOutcome n m t caller e)
 answerTo pair n m t (find kind mark) = told finding (calls.find n m t kind mark)
 answerTo pair n m t (parties kind mark) = gives (pairing pair) t
 answerTo pair n m t inspect = told inspecting (calls.inspect n m t)
@@ -105,7 +106,7 @@ editOf (CodeEdit.TakeLink child parent) = takeLink (child .0) (parent .0)
 
 abbrev pub requestOf : CodeRequest → Request
 requestOf CodeRequest.Open = openBook
-requestOf (CodeRequest.Edit e) = edit (editOf e)
+requestOf (CodeRequest.Edit caller e) = edit (caller .0) (editOf e)
 requestOf (CodeRequest.Find kind mark) = find (kind .0) (mark .0)
 requestOf (CodeRequest.Parties kind mark) = parties (kind .0) (mark .0)
 requestOf CodeRequest.Inspect = inspect
@@ -139,24 +140,26 @@ accepts (finding reply) = isGiven reply
 accepts (pairing reply) = isGiven reply
 accepts (inspecting reply) = isGiven reply
 
--- the edits since the last open, where there were `count` before an accepted call: open starts anew, an edit is one more. A refresh is no edit
-abbrev pub withCall : Request → (count : ℕ) → ℕ
-withCall openBook count = 0
-withCall (edit e) count = count + 1
-withCall (find kind mark) count = count
-withCall (parties kind mark) count = count
-withCall inspect count = count
-withCall refresh count = count
+-- a caller's edits since the last open, where there were `count` before an accepted call: open starts anew, an edit by that caller is one more.
+-- A refresh is no edit
+abbrev pub withCall : (caller : ℕ) → Request → (count : ℕ) → ℕ
+withCall caller openBook count = 0
+withCall caller (edit by e) count = elim (eqb by caller) [ true ↦ count + 1 | false ↦ count ]
+withCall caller (find kind mark) count = count
+withCall caller (parties kind mark) count = count
+withCall caller inspect count = count
+withCall caller refresh count = count
 
 -- .. and after a call that may be refused, which counts nothing
-abbrev pub countedBy : (accepted : Bool) → Request → (count : ℕ) → ℕ
-countedBy true request count = withCall request count
-countedBy false request count = count
+abbrev pub countedBy : (caller : ℕ) → (accepted : Bool) → Request → (count : ℕ) → ℕ
+countedBy caller true request count = withCall caller request count
+countedBy caller false request count = count
 
--- the edits accepted since the book's last accepted open, where `count` were before these calls
-unfoldable pub editsSince : (count : ℕ) → List Call → Tables → ℕ
-editsSince count [] t = count
-editsSince count (call ∷ cs) t = editsSince (countedBy (accepts (outcome (refused 0) call t .answer)) (call .request) count) cs (after call t)
+-- a caller's edits accepted since the book's last accepted open, where `count` were before these calls
+unfoldable pub editsSince : (caller count : ℕ) → List Call → Tables → ℕ
+editsSince caller count [] t = count
+editsSince caller count (call ∷ cs) t =
+    editsSince caller (countedBy caller (accepts (outcome (refused 0) call t .answer)) (call .request) count) cs (after call t)
 
 abbrev pub Agree : List ℕ → List ℕ → Type 0
 Agree xs ys = (i : ℕ) → getD xs i 0 ≡ getD ys i 0

@@ -1,6 +1,6 @@
 -- What each call answers and what it leaves in the tables, as docs/SCOPE.md has it, call by call. The checks of a call stand in its
 -- order, each with the number of its refusal.
---     openBook, addRule, takeRule, addLink, takeLink, find, inspect, refresh
+--     openBook, addRule, takeRule, addLink, takeLink, find, inspect, refresh; byCaller: what every edit checks first
 --     PartiesGive    parties alone is stated by a property: its refusals are exact, and what it gives are some two different kinds left
 -- Assumes nothing.
 use mathlib.Core.Path.{_≡_}
@@ -13,7 +13,8 @@ use lib.ListN.{getD, replicate, set}
 use Rattle.inheritance.specs.Above.{above}
 use Rattle.inheritance.specs.Lookup.{Left}
 use Rattle.tables.specs.Reply.{Reply, refused, given, Finding, Fault, TwoKinds}
-use Rattle.tables.specs.Tables.{Tables, lent, tallies, shaped, upOf, ownOf, entriesOf, all-below, byte-right, kind-free, entry-right, links-right, sound, differing, tallied}
+use Rattle.tables.specs.Caller.{callers}
+use Rattle.tables.specs.Tables.{Tables, lent, shaped, upOf, ownOf, entriesOf, all-below, byte-right, kind-free, entry-right, links-right, sound, differing, tallied}
 
 pub record Outcome (A : Type 0) : Type 0 where
   pub reply : Reply A
@@ -32,7 +33,7 @@ check number false t next = leaves (refused number) t
 
 -- all four tables are 0
 abbrev pub zeros : ℕ → ℕ → Tables
-zeros n m = lent (replicate (n * n) 0) (replicate (n * m) 0) (replicate (n * m) 0) (replicate tallies 0)
+zeros n m = lent (replicate (n * n) 0) (replicate (n * m) 0) (replicate (n * m) 0) (replicate callers 0)
 
 unfoldable pub openBook : (n m : ℕ) → Tables → Outcome (Unit {0})
 openBook n m t =
@@ -41,47 +42,54 @@ openBook n m t =
 
 -- ---- The four edits
 
--- an accepted edit: the links and rules are as given, every entry is its lookup, the tally counts one more; the count is of the places whose
--- entry differs from before
-unfoldable pub accepted : (n m : ℕ) → Tables → (links rules : List ℕ) → Outcome ℕ
-accepted n m t links rules =
-    leaves (given (differing (t .entries) (entriesOf n m (upOf n links) rules)))
-    (lent links rules (entriesOf n m (upOf n links) rules) (tallied 0 (t .tally)))
-
-unfoldable pub addRule : (n m : ℕ) → Tables → (kind mark handling : ℕ) → Outcome ℕ
-addRule n m t kind mark handling =
+-- an edit of any caller begins so: the tables have their lengths, and the caller is one of the tally's
+abbrev pub byCaller : {A : Type 0} → (n m : ℕ) → Tables → (caller : ℕ) → Outcome A → Outcome A
+byCaller n m t caller next =
     check 1 (shaped n m t) t
+    (check 13 (ltb caller callers) t
+    next)
+
+-- an accepted edit: the links and rules are as given, every entry is its lookup, the tally counts one more of the caller; the count is of the
+-- places whose entry differs from before
+unfoldable pub accepted : (n m : ℕ) → Tables → (caller : ℕ) → (links rules : List ℕ) → Outcome ℕ
+accepted n m t caller links rules =
+    leaves (given (differing (t .entries) (entriesOf n m (upOf n links) rules)))
+    (lent links rules (entriesOf n m (upOf n links) rules) (tallied caller (t .tally)))
+
+unfoldable pub addRule : (n m : ℕ) → Tables → (caller kind mark handling : ℕ) → Outcome ℕ
+addRule n m t caller kind mark handling =
+    byCaller n m t caller
     (check 2 (ltb kind n) t
     (check 3 (ltb mark m) t
     (check 4 (not (eqb handling 0)) t
     (check 5 (sound n m t) t
-    (accepted n m t (t .links) (set (t .rules) (kind * m + mark) handling))))))
+    (accepted n m t caller (t .links) (set (t .rules) (kind * m + mark) handling))))))
 
-unfoldable pub takeRule : (n m : ℕ) → Tables → (kind mark : ℕ) → Outcome ℕ
-takeRule n m t kind mark =
-    check 1 (shaped n m t) t
+unfoldable pub takeRule : (n m : ℕ) → Tables → (caller kind mark : ℕ) → Outcome ℕ
+takeRule n m t caller kind mark =
+    byCaller n m t caller
     (check 2 (ltb kind n) t
     (check 3 (ltb mark m) t
     (check 5 (sound n m t) t
     (check 6 (ownOf m (t .rules) mark kind) t
-    (accepted n m t (t .links) (set (t .rules) (kind * m + mark) 0))))))
+    (accepted n m t caller (t .links) (set (t .rules) (kind * m + mark) 0))))))
 
-unfoldable pub addLink : (n m : ℕ) → Tables → (child parent : ℕ) → Outcome ℕ
-addLink n m t child parent =
-    check 1 (shaped n m t) t
+unfoldable pub addLink : (n m : ℕ) → Tables → (caller child parent : ℕ) → Outcome ℕ
+addLink n m t caller child parent =
+    byCaller n m t caller
     (check 2 (ltb child n && ltb parent n) t
     (check 5 (sound n m t) t
     (check 7 (not (upOf n (t .links) child parent)) t
     (check 9 (not (eqb parent child || above n (upOf n (t .links)) parent child)) t
-    (accepted n m t (set (t .links) (child * n + parent) 1) (t .rules))))))
+    (accepted n m t caller (set (t .links) (child * n + parent) 1) (t .rules))))))
 
-unfoldable pub takeLink : (n m : ℕ) → Tables → (child parent : ℕ) → Outcome ℕ
-takeLink n m t child parent =
-    check 1 (shaped n m t) t
+unfoldable pub takeLink : (n m : ℕ) → Tables → (caller child parent : ℕ) → Outcome ℕ
+takeLink n m t caller child parent =
+    byCaller n m t caller
     (check 2 (ltb child n && ltb parent n) t
     (check 5 (sound n m t) t
     (check 8 (upOf n (t .links) child parent) t
-    (accepted n m t (set (t .links) (child * n + parent) 0) (t .rules)))))
+    (accepted n m t caller (set (t .links) (child * n + parent) 0) (t .rules)))))
 
 -- ---- Find
 

@@ -1,4 +1,5 @@
 pub mod Books
+pub mod Caller
 pub mod Calls
 pub mod Controller
 pub mod Edit

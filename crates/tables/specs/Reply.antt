@@ -46,6 +46,7 @@ refusalNumber Refusal.Cycle = 9
 refusalNumber Refusal.BadEntry = 10
 refusalNumber Refusal.NoDispute = 11
 refusalNumber Refusal.BadForm = 12
+refusalNumber Refusal.Caller = 13
 
 abbrev pub opened : Opened → Reply (Unit {0})
 opened Opened.Done = given tt

@@ -1,6 +1,5 @@
 -- The four tables of a book of n kinds and m marks, as lists, and what they say.
 --     Tables          links, rules, entries and tally; lent: the tables that a call is lent
---     tallies         how many numbers the tally has
 --     sized           n and m are in their ranges, and every table has exactly its length; Lengths: the same as facts
 --     shaped          .. of a book's tables: else refusal 1; LengthsOf: the same as facts; Sized: what of it a part of a call asks
 --     upOf, ownOf     the links and, for one mark, the own rules
@@ -9,7 +8,7 @@
 --     sound           sound tables: every link byte is 0 or 1, and `sound-over` the links: no kind is above itself, every entry equals
 --                     its lookup
 --     differing       at how many places two tables differ
---     tallied         one more accepted edit
+--     tallied         one more accepted edit of a caller
 -- Assumes nothing.
 use mathlib.Core.Path.{_≡_}
 use mathlib.Core.Bool.{Bool, true, false, _&&_, not}
@@ -19,6 +18,7 @@ use lib.Dec.{eqb, leb, ltb}
 use lib.ListN.{length, getD, set}
 use Rattle.inheritance.specs.Above.{above}
 use Rattle.inheritance.specs.Lookup.{lookup}
+use Rattle.tables.specs.Caller.{callers}
 use Rattle.tables.specs.Entry.{entryOf}
 
 pub record Tables : Type 0 where
@@ -31,19 +31,15 @@ pub record Tables : Type 0 where
 abbrev pub lent : (links rules entries tally : List ℕ) → Tables
 lent links rules entries tally = record { links = links; rules = rules; entries = entries; tally = tally }
 
--- the tally has one number
-abbrev pub tallies : ℕ
-tallies = 1
-
--- n is 1 to 128, m is 1 to 64, and the tables have exactly these lengths; a number of 16 bits takes `short` elements of its table, and one of
--- 32 bits `long`
+-- n is 1 to 128, m is 1 to 64, and the tables have exactly these lengths, the tally a number for each caller; a number of 16 bits takes
+-- `short` elements of its table, and one of 32 bits `long`
 unfoldable pub sized : (short long n m links rules entries tally : ℕ) → Bool
 sized short long n m links rules entries tally =
     leb 1 n && leb n 128 && leb 1 m && leb m 64
     && eqb links (n * n)
     && eqb rules (short * (n * m))
     && eqb entries (short * (n * m))
-    && eqb tally (long * tallies)
+    && eqb tally (long * callers)
 
 pub record Lengths (short long n m links rules entries tally : ℕ) : Type 0 where
   pub kinds : (1 ≤ n) × (n ≤ 128)
@@ -51,7 +47,7 @@ pub record Lengths (short long n m links rules entries tally : ℕ) : Type 0 whe
   pub links-length : links ≡ n * n
   pub rules-length : rules ≡ short * (n * m)
   pub entries-length : entries ≡ short * (n * m)
-  pub tally-length : tally ≡ long * tallies
+  pub tally-length : tally ≡ long * callers
 
 abbrev pub shaped : ℕ → ℕ → Tables → Bool
 shaped n m t = sized 1 1 n m (length (t .links)) (length (t .rules)) (length (t .entries)) (length (t .tally))
@@ -141,6 +137,6 @@ differing (x ∷ xs) (y ∷ ys) = differ x y + differing xs ys
 abbrev pub saturated : ℕ → ℕ
 saturated x = elim (ltb x 4294967295) [ true ↦ x + 1 | false ↦ x ]
 
--- the number at a place counts one more
-unfoldable pub tallied : (place : ℕ) → List ℕ → List ℕ
-tallied place tally = set tally place (saturated (getD tally place 0))
+-- the caller's number counts one more
+unfoldable pub tallied : (caller : ℕ) → List ℕ → List ℕ
+tallied caller tally = set tally caller (saturated (getD tally caller 0))

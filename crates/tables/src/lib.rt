@@ -1,11 +1,21 @@
-// Calls as values, what they answer, the 16-bit entry of a lookup, and the places of the tables.
+// Callers, calls as values, what they answer, the 16-bit entry of a lookup, and the places of the tables.
 use inheritance::Kind;
 use inheritance::Lookup;
 use inheritance::Mark;
 ghost use mathlib.Core.Path.{_≡_};
 ghost use Prim.Native.Nat.{_+_, _*_, _<_};
+ghost use Rattle.tables.specs.Caller.{callerBelow};
 ghost use Rattle.tables.specs.Entry.{entryOf, lookupOf};
 ghost use Rattle.tables.specs.Reply.{refusalNumber};
+
+// Who enters an edit: each caller has a number of the tally.
+pub struct Caller(pub u16);
+
+// A number as a caller, or that it is none.
+pub enum CheckedCaller {
+    Caller(Caller),
+    Outside,
+}
 
 // Why a call is refused. docs/SCOPE.md has each reason with its number.
 pub enum Refusal {
@@ -21,6 +31,7 @@ pub enum Refusal {
     BadEntry,
     NoDispute,
     BadForm,
+    Caller,
 }
 
 // What open answers.
@@ -66,10 +77,10 @@ pub enum Edit {
     TakeLink(Kind, Kind),
 }
 
-// What is asked of a book: one of the nine calls, with any arguments.
+// What is asked of a book: one of the nine calls, with any arguments. An edit names its caller.
 pub enum Request {
     Open,
-    Edit(Edit),
+    Edit(Caller, Edit),
     Find(Kind, Mark),
     Parties(Kind, Mark),
     Inspect,
@@ -92,6 +103,22 @@ pub enum Answer {
     Inspected(Inspected),
 }
 
+impl Caller {
+    // The most callers that a book has.
+    pub const MOST: u16 = 16;
+
+    // The caller with this number.
+    pub fn new(number: u16) -> CheckedCaller
+        ensures { λ r. ⌜ r ≡ callerBelow number ⌝ }
+    {
+        if number < Caller::MOST {
+            CheckedCaller::Caller(Caller(number))
+        } else {
+            CheckedCaller::Outside
+        }
+    }
+}
+
 impl Refusal {
     // Its number.
     pub fn number(self) -> u8
@@ -110,6 +137,7 @@ impl Refusal {
             Refusal::BadEntry => 10,
             Refusal::NoDispute => 11,
             Refusal::BadForm => 12,
+            Refusal::Caller => 13,
         }
     }
 }
@@ -140,8 +168,8 @@ pub fn encode(lookup: Lookup) -> u16
     }
 }
 
-// How many numbers the tally has.
-pub const TALLIES: usize = 1;
+// How many numbers the tally has: one for each caller.
+pub const TALLIES: usize = Caller::MOST as usize;
 
 // The place of a column in a row of a table, whose rows are so wide.
 fn in_row(row: u16, width: u16, column: u16) -> usize

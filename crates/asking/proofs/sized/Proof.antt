@@ -5,7 +5,8 @@ use Prim.Native.Nat.{_*_, _≤_}
 use native.Mathlib.Nat.{mul-le-mul}
 use native.Mathlib.Omega.{arith}
 use lib.Dec.{eqb}
-use Rattle.tables.specs.Tables.{tallies, sized}
+use Rattle.tables.specs.Caller.{callers}
+use Rattle.tables.specs.Tables.{sized}
 use Rattle.tables.proofs.ShapeLaws.{product-fits}
 use Rattle.asking.proofs.sized.Statement.{statement}
 use Rattle.asking.proofs.sized.Tie as tie
@@ -36,7 +37,7 @@ returns-2 : tie.Need-returns-2
 unfolding sized
 returns-2 c =
     let a = c .before .args in
-    and-left _ (eqb (a .entries) (a .short * (a .n * a .m))) (eqb (a .tally) (a .long * tallies)) (c .if1 .left)
+    and-left _ (eqb (a .entries) (a .short * (a .n * a .m))) (eqb (a .tally) (a .long * callers)) (c .if1 .left)
 
 pub sized-spec : {M : Type 1} → statement M
 sized-spec =

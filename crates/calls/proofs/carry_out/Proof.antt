@@ -23,7 +23,7 @@ returns-2 : tie.Need-returns-2
 returns-2 c =
     let made = c .before .before .before .before .before .before .before .before in
     let asked = made .before .before .before .before .before .before in
-    rw (asked .request .given .1) (edit-carried _ _ (book (asked .before .before)) _ (made .make .ensures))
+    rw (asked .request .given .1) (edit-carried _ _ (book (asked .before .before)) _ _ (made .make .ensures))
 
 returns-3 : tie.Need-returns-3
 returns-3 c =

@@ -5,7 +5,7 @@ use denote.Ref.{now}
 use borrow.Author.Needs.{needs}
 use Rattle.inheritance.specs.Checked.{kindBelow, markBelow}
 use Rattle.asking.specs.declared.Asked.{Asked}
-use Rattle.asking.specs.Ask.{askedKind, asked}
+use Rattle.asking.specs.Ask.{askedAt, asked}
 use Rattle.tables.specs.Tables.{Tables, lent}
 use Rattle.tables.specs.Controller.{shaped-bytes}
 use Rattle.lane.proofs.PackedLaws.{bytes-within, packed-at, packed-refused}
@@ -23,7 +23,7 @@ is-shaped c = sym (c .before .shape-bytes .ensures)
 
 -- what refusals 1, 2 and 3 come to
 abbrev checked : tie.After-ask → Asked
-checked c = let a = start c .args in asked (askedKind (shaped-bytes (a .n) (a .m) (book c)) (kindBelow (a .n) (a .kind))) (markBelow (a .m) (a .mark))
+checked c = let a = start c .args in asked (shaped-bytes (a .n) (a .m) (book c)) (askedAt (kindBelow (a .n) (a .kind)) (markBelow (a .m) (a .mark)))
 
 is-asked : (c : tie.After-ask) → checked c ≡ c .ask .result
 is-asked c = rw (is-shaped c) (sym (c .ask .ensures))

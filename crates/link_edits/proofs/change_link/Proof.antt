@@ -2,57 +2,68 @@
 use mathlib.Core.Path.{_≡_, sym, _∙_}
 use denote.Ref.{now}
 use borrow.Author.Needs.{needs}
+use Rattle.inheritance.specs.Checked.{kindBelow}
+use Rattle.asking.specs.declared.CallerAsked.{CallerAsked}
 use Rattle.asking.specs.declared.LinkAsked.{LinkAsked}
-use Rattle.asking.specs.Ask.{checkedLink}
+use Rattle.asking.specs.Ask.{askedLink, checkedCaller}
 use Rattle.tables.specs.Tables.{Tables, lent}
-use Rattle.asking.proofs.AskLaws.{link-admitted}
-use Rattle.link_edits.proofs.LinkEditLaws.{link-refused, link-passed}
+use Rattle.asking.proofs.AskLaws.{asked-between, asked-by}
+use Rattle.link_edits.proofs.LinkEditLaws.{caller-refused, link-refused, link-passed}
 use Rattle.link_edits.proofs.change_link.Statement.{statement}
 use Rattle.link_edits.proofs.change_link.Tie as tie
 
-abbrev start : tie.After-ask-link → tie.Start
+abbrev start : tie.After-ask-caller → tie.Start
 start c = c .before .before .before .before .before .before .before .before
 
-abbrev book : tie.After-ask-link → Tables
+abbrev book : tie.After-ask-caller → Tables
 book c = let a = start c .args in lent (now (a .links)) (now (a .rules)) (now (a .entries)) (now (a .tally))
 
--- the child and the parent are the book's
+-- where the caller was asked for, from where the child and the parent were
+abbrev called : tie.After-ask-link → tie.After-ask-caller
+called c = c .before .before .before .before
+
+is-by : (c : tie.After-ask-link) → let a = start (called c) .args in
+    checkedCaller (a .n) (a .m) (book (called c)) (a .caller .0) ≡ CallerAsked.By (c .before .before .by .given .0 .0)
+is-by c = sym (called c .ask-caller .ensures) ∙ c .before .before .by .given .1
+
 abbrev asked : tie.After-c → tie.After-ask-link
 asked c = c .before .before
 
-is-between : (c : tie.After-c) → let a = start (asked c) .args in
-    checkedLink (a .n) (a .m) (book (asked c)) (a .child .0) (a .parent .0) ≡ LinkAsked.Between (c .c .given .0 .0) (c .c .given .0 .1 .0)
+is-between : (c : tie.After-c) → let a = start (called (asked c)) .args in
+    askedLink (kindBelow (a .n) (a .child .0)) (kindBelow (a .n) (a .parent .0)) ≡ LinkAsked.Between (c .c .given .0 .0) (c .c .given .0 .1 .0)
 is-between c = sym (asked c .ask-link .ensures) ∙ c .c .given .1
 
 edit-link-requires : tie.Need-edit-link-requires
 edit-link-requires c κs =
     let k = c .before .before .before .before in
-    link-admitted _ _ (book (asked k)) _ _ (is-between k)
+    let x = asked k in
+    let a = start (called x) .args in
+    let by = asked-by _ _ (book (called x)) (a .caller .0) (is-by x) in
+    let at = asked-between (a .n) (a .child .0) (a .parent .0) (is-between k) in
+    (by .fits, rw (by .the-caller) (by .caller-below), rw (at .the-child) (at .child-below), rw (at .the-parent) (at .parent-below))
 
 returns : tie.Need-returns
 returns c =
     let x = c .before .before .before in
-    link-refused _ _ (book x) _ _ (start x .args .adding) (sym (x .ask-link .ensures) ∙ c .before .why .given .1)
+    caller-refused _ _ (book x) _ _ _ (start x .args .adding) (sym (x .ask-caller .ensures) ∙ c .before .why .given .1)
 
 returns-2 : tie.Need-returns-2
 returns-2 c =
+    let x = c .before .before .before in
+    link-refused _ _ (book (called x)) _ _ _ (start (called x) .args .adding) (is-by x) (sym (x .ask-link .ensures) ∙ c .before .why2 .given .1)
+
+returns-3 : tie.Need-returns-3
+returns-3 c =
     let r = c .before .before .before .before .before .before in
     let k = r .before .before .before .before .before in
-    r .edit-link .ensures ∙ link-passed _ _ (book (asked k)) _ _ (start (asked k) .args .adding) (is-between k)
+    let x = asked k in
+    r .edit-link .ensures ∙ link-passed _ _ (book (called x)) _ _ _ (start (called x) .args .adding) (is-by x) (is-between k)
 
 pub change-link-spec : {M : Type 1} → statement M
 change-link-spec =
     tie.close
     (tie.spec
-    (λ c κs. search needs)
-    (λ c. search needs)
-    (λ c. search needs)
-    edit-link-requires
-    (λ c. search needs)
-    (λ c. search needs)
-    (λ c. search needs)
-    returns
-    (λ c. search needs)
-    (λ c. search needs)
-    (λ c. search needs)
-    returns-2)
+    (λ c κs. search needs) (λ c. search needs) (λ c. search needs) (λ c κs. search needs) (λ c. search needs) (λ c. search needs) edit-link-requires
+    (λ c. search needs) (λ c. search needs) (λ c. search needs) returns
+    (λ c. search needs) (λ c. search needs) (λ c. search needs) returns-2
+    (λ c. search needs) (λ c. search needs) (λ c. search needs) returns-3)

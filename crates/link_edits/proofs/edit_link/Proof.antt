@@ -48,7 +48,7 @@ is-judged : (c : tie.After-judge) → let a = start (asked (past (found c))) .ar
 is-judged c =
     let e = past (found c) in
     let s = start (asked e) in
-    sym (judged-links _ _ (book (asked e)) _ _ (s .args .adding) (is-known e) (s .pre .1) (s .pre .2) (found c .next .ensures)) ∙ sym (c .judge .ensures)
+    sym (judged-links _ _ (book (asked e)) _ _ (s .args .adding) (is-known e) (s .pre .2) (s .pre .3) (found c .next .ensures)) ∙ sym (c .judge .ensures)
 
 examine-requires : tie.Need-examine-requires
 examine-requires c κs = (fits-sized _ _ (book c) (start c .pre .0), (blank-zeros 256 refl, refl, blank-zeros 256 refl, blank-zeros 256 refl))
@@ -57,12 +57,12 @@ returns : tie.Need-returns
 returns c =
     let x = c .before in
     let a = start (x .before) .args in
-    link-unsound _ _ (book (x .before)) _ _ (a .adding) (sym (x .examine .ensures .answer (now (a .tally))) ∙ not-true _ (c .if1 .taken))
+    link-unsound _ _ (book (x .before)) _ _ (a .adding) (a .caller .0) (sym (x .examine .ensures .answer (now (a .tally))) ∙ not-true _ (c .if1 .taken))
 
 next-requires : tie.Need-next-requires
 next-requires c κs =
     let e = c .before .before in
-    (omega (arith, start (asked e) .pre .1, has (is-known e) .sizes .kinds), omega arith)
+    (omega (arith, start (asked e) .pre .2, has (is-known e) .sizes .kinds), omega arith)
 
 judge-requires : tie.Need-judge-requires
 judge-requires c κs =
@@ -70,14 +70,14 @@ judge-requires c κs =
     let k = is-known (past f) in
     let p = start (asked (past f)) .pre in
     let few = has k .sizes .kinds in
-    (omega (arith, p .1), omega (arith, p .2), omega (arith, known-place k _ (p .1) (f .next .ensures) .0))
+    (omega (arith, p .2), omega (arith, p .3), omega (arith, known-place k _ (p .2) (f .next .ensures) .0))
 
 returns-2 : tie.Need-returns-2
 returns-2 c =
     let j = c .before .before .before in
     let e = past (found j) in
     let s = start (asked e) in
-    link-judged _ _ (book (asked e)) _ _ (s .args .adding) (is-known e) (s .pre .1) (s .pre .2) (is-judged j ∙ c .before .why .given .1)
+    link-judged _ _ (book (asked e)) _ _ (s .args .adding) (is-known e) (s .pre .2) (s .pre .3) (s .args .caller .0) (is-judged j ∙ c .before .why .given .1)
 
 apply-link-requires : tie.Need-apply-link-requires
 apply-link-requires c κs =
@@ -86,7 +86,7 @@ apply-link-requires c κs =
     let e = past (found j) in
     let s = start (asked e) in
     let k = is-known e in
-    ((k, s .pre .1, s .pre .2), link-acyclic _ _ (book (asked e)) _ _ (s .args .adding) k (s .pre .1) (s .pre .2) (is-judged j ∙ a .enum-told .given .1))
+    ((k, s .pre .1, s .pre .2, s .pre .3), link-acyclic _ _ (book (asked e)) _ _ (s .args .adding) k (s .pre .2) (s .pre .3) (is-judged j ∙ a .enum-told .given .1))
 
 returns-3 : tie.Need-returns-3
 returns-3 c =
@@ -95,7 +95,7 @@ returns-3 c =
     let j = a .before .before in
     let e = past (found j) in
     let s = start (asked e) in
-    r .apply-link .ensures ∙ link-allowed _ _ (book (asked e)) _ _ (s .args .adding) (is-known e) (s .pre .1) (s .pre .2) (is-judged j ∙ a .enum-told .given .1)
+    r .apply-link .ensures ∙ link-allowed _ _ (book (asked e)) _ _ (s .args .adding) (is-known e) (s .pre .2) (s .pre .3) (is-judged j ∙ a .enum-told .given .1) (s .args .caller .0)
 
 pub edit-link-spec : {M : Type 1} → statement M
 edit-link-spec =

@@ -29,15 +29,15 @@ abbrev settled : tie.After-count-edit → tie.After-resettle-link
 settled c = c .before .before .before .before
 
 within : (c : tie.After-link-place) → c .link-place .result < length (now (start c .args .links))
-within c = let p = start c .pre .0 in omega (arith, c .link-place .ensures, has (p .0) .lengths .links-length, digits-lt (p .1) (p .2))
+within c = let p = start c .pre .0 in omega (arith, c .link-place .ensures, has (p .0) .lengths .links-length, digits-lt (p .2) (p .3))
 
 relink-requires : tie.Need-relink-requires
 relink-requires c κs =
     let p = start (c .before .before .before .before) .pre .0 in
     let h = has (p .0) in (
       record { kinds = h .sizes .kinds; marks = h .sizes .marks; rules-size = h .sizes .rules-size; rows-long = p .0 .loaded .long; order-long = p .0 .prepared .arranged .long-order },
-      p .1,
       p .2,
+      p .3,
     )
 
 resettle-link-requires : tie.Need-resettle-link-requires
@@ -46,17 +46,17 @@ resettle-link-requires c κs =
     let s = start (placed r) in
     let p = s .pre .0 in
     let t = book (placed r) in (
-      (fits-sized _ _ t (p .0 .fits) .0, p .1),
+      (fits-sized _ _ t (p .0 .fits) .0, p .2),
       (
-        link-prepared _ _ t _ _ (s .args .adding) (p .0) (p .1) (p .2) (s .pre .1) (r .relink .ensures),
-        link-untouched _ _ t _ _ (s .args .adding) (p .0) (p .1) (p .2) (s .pre .1) (r .relink .ensures),
+        link-prepared _ _ t _ _ (s .args .adding) (p .0) (p .2) (p .3) (s .pre .1) (r .relink .ensures),
+        link-untouched _ _ t _ _ (s .args .adding) (p .0) (p .2) (p .3) (s .pre .1) (r .relink .ensures),
       ),
     )
 
 count-edit-requires : tie.Need-count-edit-requires
 count-edit-requires c κs =
     let q = placed (relinked (c .before .before .before)) in
-    omega (arith, fits-tally _ _ (book q) (start q .pre .0 .0 .fits))
+    omega (arith, fits-tally _ _ (book q) (start q .pre .0 .0 .fits), start q .pre .0 .1)
 
 returns : tie.Need-returns
 returns c =
@@ -66,7 +66,7 @@ returns c =
     let q = placed r in
     let s = start q in
     let p = s .pre .0 in
-    link-done _ _ (book q) _ _ (s .args .adding) (p .0) (p .1) (p .2) (s .pre .1) (r .relink .ensures)
+    link-done _ _ (book q) _ _ (s .args .adding) (p .0) (p .2) (p .3) (s .pre .1) (r .relink .ensures) (s .args .caller .0)
     (ap (λ (i : ℕ). set (now (s .args .links)) i (one-if (s .args .adding))) (q .link-place .ensures)) (l .resettle-link .ensures) (e .count-edit .ensures)
 
 pub apply-link-spec : {M : Type 1} → statement M

@@ -19,14 +19,14 @@ abbrev found : tie.After-resettle-rule → tie.After-next
 found c = c .before .before .before .before .before
 
 within : (c : tie.After-place) → c .place .result < length (now (start c .args .rules))
-within c = let p = start c .pre .0 in rule-within _ _ (p .0) _ _ (start c .args .handling) (p .2) (p .3) _ (c .place .ensures)
+within c = let p = start c .pre .0 in rule-within _ _ (p .0) _ _ (start c .args .handling) (p .3) (p .4) _ (c .place .ensures)
 
 rerule-requires : tie.Need-rerule-requires
 rerule-requires c κs =
     let s = start (placed c) in
     let ready = s .pre .1 .0 in (
-      omega (arith, s .pre .0 .3, s .pre .0 .0 .marks),
-      omega (arith, kind-place _ _ _ _ (ready .arranged) (s .pre .0 .0 .kinds) _ (s .pre .0 .2) (c .next .ensures) .0, s .pre .0 .0 .kinds),
+      omega (arith, s .pre .0 .4, s .pre .0 .0 .marks),
+      omega (arith, kind-place _ _ _ _ (ready .arranged) (s .pre .0 .0 .kinds) _ (s .pre .0 .3) (c .next .ensures) .0, s .pre .0 .0 .kinds),
       ready .rule-kinds .long,
     )
 
@@ -37,9 +37,9 @@ resettle-rule-requires c κs =
     let s = start q in
     let p = s .pre .0 in
     let h = s .args .handling in (
-      (rule-sized _ _ (p .0) _ _ h (p .2) (p .3) _ (q .place .ensures), p .2, p .3),
+      (rule-sized _ _ (p .0) _ _ h (p .3) (p .4) _ (q .place .ensures), p .3, p .4),
       (
-        rule-prepared _ _ (p .0) _ _ h (p .2) (p .3) _ (q .place .ensures) (s .pre .1 .0) (f .before .next .ensures) (f .rerule .ensures),
+        rule-prepared _ _ (p .0) _ _ h (p .3) (p .4) _ (q .place .ensures) (s .pre .1 .0) (f .before .next .ensures) (f .rerule .ensures),
         rw (q .place .ensures) (s .pre .1 .1),
       ),
     )
@@ -50,7 +50,7 @@ returns c =
     let r = counted .before .before .before .before in
     let q = placed (found r) in
     let p = start q .pre .0 in
-    rule-applied _ _ (p .0) _ _ (start q .args .handling) (p .2) (p .3) _ (q .place .ensures) (r .resettle-rule .ensures) (counted .count-edit .ensures)
+    rule-applied _ _ (p .0) _ _ (start q .args .handling) (p .3) (p .4) _ (q .place .ensures) (r .resettle-rule .ensures) (counted .count-edit .ensures)
 
 pub apply-rule-spec : {M : Type 1} → statement M
 apply-rule-spec =

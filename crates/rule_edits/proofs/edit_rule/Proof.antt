@@ -43,18 +43,18 @@ returns : tie.Need-returns
 returns c =
     let x = c .before in
     let a = start (x .before) .args in
-    rule-unsound _ _ (book (x .before)) _ _ (a .handling) (sym (x .examine .ensures .answer (now (a .tally))) ∙ not-true _ (c .if1 .taken))
+    rule-unsound _ _ (book (x .before)) _ _ (a .handling) (a .caller .0) (sym (x .examine .ensures .answer (now (a .tally))) ∙ not-true _ (c .if1 .taken))
 
 within : (c : tie.After-place) → c .place .result < length (now (start (asked c) .args .rules))
 within c =
     let s = start (asked c) in
-    rule-within _ _ (fits-sized _ _ (book (asked c)) (s .pre .0) .0) _ _ (s .args .handling) (s .pre .1) (s .pre .2) _ (c .place .ensures)
+    rule-within _ _ (fits-sized _ _ (book (asked c)) (s .pre .0) .0) _ _ (s .args .handling) (s .pre .2) (s .pre .3) _ (c .place .ensures)
 
 returns-2 : tie.Need-returns-2
 returns-2 c =
     let q = c .before .before in
     let s = start (asked q) in
-    rule-absent _ _ (book (asked q)) _ _ (s .args .handling) (is-known (q .before)) (s .pre .2) _ (q .place .ensures) (c .if2 .taken)
+    rule-absent _ _ (book (asked q)) _ _ (s .args .handling) (is-known (q .before)) (s .pre .3) _ (q .place .ensures) (s .args .caller .0) (c .if2 .taken)
 
 apply-rule-requires : tie.Need-apply-rule-requires
 apply-rule-requires c κs =
@@ -62,8 +62,8 @@ apply-rule-requires c κs =
     let s = start (asked q) in
     let t = book (asked q) in
     let k = is-known (q .before) in (
-      (fits-sized _ _ t (s .pre .0) .0, fits-tally _ _ t (s .pre .0), s .pre .1, s .pre .2),
-      (k .prepared, rule-untouched _ _ t _ _ (s .args .handling) k (s .pre .2)),
+      (fits-sized _ _ t (s .pre .0) .0, fits-tally _ _ t (s .pre .0), s .pre .1, s .pre .2, s .pre .3),
+      (k .prepared, rule-untouched _ _ t _ _ (s .args .handling) k (s .pre .3)),
     )
 
 returns-3 : tie.Need-returns-3
@@ -71,7 +71,7 @@ returns-3 c =
     let r = c .before .before .before .before .before .before in
     let q = applied r .before .before in
     let s = start (asked q) in
-    rule-done _ _ (book (asked q)) _ _ (s .args .handling) (is-known (q .before)) (s .pre .2) _ (q .place .ensures) (applied r .if2 .left) (r .apply-rule .ensures)
+    rule-done _ _ (book (asked q)) _ _ (s .args .handling) (is-known (q .before)) (s .pre .3) _ (q .place .ensures) (s .args .caller .0) (applied r .if2 .left) (r .apply-rule .ensures)
 
 pub edit-rule-spec : {M : Type 1} → statement M
 edit-rule-spec =

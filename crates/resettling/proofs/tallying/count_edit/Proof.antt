@@ -7,12 +7,13 @@ use Rattle.resettling.proofs.tallying.count_edit.Statement.{statement}
 use Rattle.resettling.proofs.tallying.count_edit.Tie as tie
 
 returns : tie.Need-returns
-returns c = let a = c .before .before .args in sym (tally-next (a .place) (now (a .tally)) (c .if1 .taken))
+returns c = let a = c .before .before .before .args in sym (tally-next (a .caller .0) (now (a .tally)) (c .if1 .taken))
 
 returns-2 : tie.Need-returns-2
-returns-2 c = let a = c .before .before .args in sym (tally-full (a .place) (now (a .tally)) (c .if1 .left))
+returns-2 c = let a = c .before .before .before .args in sym (tally-full (a .caller .0) (now (a .tally)) (c .if1 .left))
 
 pub count-edit-spec : {M : Type 1} → statement M
 count-edit-spec =
     tie.close
-    (tie.spec (λ c. search needs) (λ c. search needs) (λ c. search needs) (λ c. search needs) (λ c. search needs) (λ c. search needs) returns returns-2)
+    (tie.spec (λ c. search needs) (λ c. search needs) (λ c. search needs) (λ c. search needs) (λ c. search needs) (λ c. search needs)
+    (λ c. search needs) returns returns-2)

@@ -1,0 +1,98 @@
+-- What it means that an edit names its caller, on any tables.
+--     caller-refused    an edit that names no caller, on tables that have their lengths, is refused by 13, whatever else it names and the tables hold
+--     caller-known      an edit that names a caller is never refused by 13
+--     others-kept       an edit moves no other caller's number of the tally, accepted or refused
+--     tally-kept        a call that names no caller and is no open leaves the tally
+-- Assumes nothing.
+use mathlib.Core.Path.{_≡_, refl, ap}
+use mathlib.Core.Bool.{Bool, true, false}
+use mathlib.Core.List.{List}
+use mathlib.Core.Logic.{_≢_}
+use Prim.Native.Nat.{ℕ, _≤_, _<_}
+use borrow.Author.Tests.{eqb-false, lt-ltb, le-ltb}
+use lib.Dec.{eqb, ltb}
+use lib.ListN.{getD}
+use lib.Seq.{getD-set-other}
+use Rattle.tables.specs.Caller.{callers}
+use Rattle.tables.specs.Reply.{Reply, refused, TwoKinds}
+use Rattle.tables.specs.Tables.{Tables, shaped, tallied}
+use Rattle.tables.specs.Calls as calls
+use Rattle.tables.specs.Calls.{Outcome, leaves, check, byCaller}
+use Rattle.tables.specs.Books.{Edit, Request, editOutcome, answerTo}
+use Rattle.tables.specs.Books.Edit.{addRule, takeRule, addLink, takeLink}
+use Rattle.tables.specs.Books.Request.{openBook, edit, find, parties, inspect, refresh}
+use Rattle.tables.proofs.CallLaws.{given-not-refused, check-cases, check-holds, find-keeps, inspect-keeps}
+
+module _ (n m : ℕ) (t : Tables) (caller : ℕ) where
+  none-such : {A : Type 0} (next : Outcome A) → shaped n m t ≡ true → callers ≤ caller → byCaller n m t caller next ≡ leaves (refused 13) t
+  unfolding check
+  none-such next fits past = rw (fits, le-ltb caller callers past) refl
+
+  pub caller-refused : (e : Edit) → shaped n m t ≡ true → callers ≤ caller → editOutcome n m t caller e ≡ leaves (refused 13) t
+  unfolding editOutcome calls.addRule calls.takeRule calls.addLink calls.takeLink
+  caller-refused (addRule k j h) = none-such _
+  caller-refused (takeRule k j) = none-such _
+  caller-refused (addLink c p) = none-such _
+  caller-refused (takeLink c p) = none-such _
+
+  -- ---- never by 13
+
+  abbrev Not13 : Outcome ℕ → Type 0
+  Not13 o = o .reply ≢ refused 13
+
+  -- a check of another number
+  past : (number : ℕ) (b : Bool) (next : Outcome ℕ) → eqb number 13 ≡ false → Not13 next → Not13 (check number b t next)
+  past number b next other rest = check-cases number t next Not13 b (λ e. eqb-false number 13 other (let same : number ≡ 13 = cc in same)) (λ _. rest)
+
+  known : (next : Outcome ℕ) → caller < callers → Not13 next → Not13 (byCaller n m t caller next)
+  unfolding check
+  known next low rest = past 1 (shaped n m t) (check 13 (ltb caller callers) t next) refl (rw (lt-ltb caller callers low) rest)
+
+  accepted-not : (links rules : List ℕ) → Not13 (calls.accepted n m t caller links rules)
+  unfolding calls.accepted
+  accepted-not links rules = given-not-refused _ 13
+
+  pub caller-known : (e : Edit) → caller < callers → editOutcome n m t caller e .reply ≢ refused 13
+  unfolding editOutcome calls.addRule calls.takeRule calls.addLink calls.takeLink
+  caller-known (addRule k j h) low = known _ low (past 2 _ _ refl (past 3 _ _ refl (past 4 _ _ refl (past 5 _ _ refl (accepted-not _ _)))))
+  caller-known (takeRule k j) low = known _ low (past 2 _ _ refl (past 3 _ _ refl (past 5 _ _ refl (past 6 _ _ refl (accepted-not _ _)))))
+  caller-known (addLink c p) low = known _ low (past 2 _ _ refl (past 5 _ _ refl (past 7 _ _ refl (past 9 _ _ refl (accepted-not _ _)))))
+  caller-known (takeLink c p) low = known _ low (past 2 _ _ refl (past 5 _ _ refl (past 8 _ _ refl (accepted-not _ _))))
+
+-- ---- the tally
+
+module _ (n m : ℕ) (t : Tables) where
+  module _ (by c : ℕ) (other : c ≢ by) where
+    abbrev Same : Tables → Type 0
+    Same t′ = getD (t′ .tally) c 0 ≡ getD (t .tally) c 0
+
+    accepted-same : (links rules : List ℕ) → Same (calls.accepted n m t by links rules .tables)
+    unfolding calls.accepted tallied
+    accepted-same links rules = getD-set-other (t .tally) by c _ 0 other
+
+    pub others-kept : (e : Edit) → Same (editOutcome n m t by e .tables)
+    unfolding editOutcome calls.addRule calls.takeRule calls.addLink calls.takeLink
+    others-kept (addRule k j h) =
+        check-holds 1 t _ Same _ refl λ _. check-holds 13 t _ Same _ refl λ _. check-holds 2 t _ Same _ refl λ _. check-holds 3 t _ Same _ refl λ _.
+        check-holds 4 t _ Same _ refl λ _. check-holds 5 t _ Same _ refl λ _. accepted-same _ _
+    others-kept (takeRule k j) =
+        check-holds 1 t _ Same _ refl λ _. check-holds 13 t _ Same _ refl λ _. check-holds 2 t _ Same _ refl λ _. check-holds 3 t _ Same _ refl λ _.
+        check-holds 5 t _ Same _ refl λ _. check-holds 6 t _ Same _ refl λ _. accepted-same _ _
+    others-kept (addLink k p) =
+        check-holds 1 t _ Same _ refl λ _. check-holds 13 t _ Same _ refl λ _. check-holds 2 t _ Same _ refl λ _. check-holds 5 t _ Same _ refl λ _.
+        check-holds 7 t _ Same _ refl λ _. check-holds 9 t _ Same _ refl λ _. accepted-same _ _
+    others-kept (takeLink k p) =
+        check-holds 1 t _ Same _ refl λ _. check-holds 13 t _ Same _ refl λ _. check-holds 2 t _ Same _ refl λ _. check-holds 5 t _ Same _ refl λ _.
+        check-holds 8 t _ Same _ refl λ _. accepted-same _ _
+
+  abbrev Kept : Tables → Type 0
+  Kept t′ = t′ .tally ≡ t .tally
+
+  pub tally-kept : (pair : Reply TwoKinds) (r : Request) → r ≢ openBook → ((by : ℕ) (e : Edit) → r ≢ edit by e) → Kept (answerTo pair n m t r .tables)
+  unfolding answerTo calls.refresh
+  tally-kept pair openBook no-open no-edit = absurd (no-open refl)
+  tally-kept pair (edit by e) no-open no-edit = absurd (no-edit by e refl)
+  tally-kept pair (find k j) no-open no-edit = ap (λ (t′ : Tables). t′ .tally) (find-keeps n m t k j)
+  tally-kept pair (parties k j) no-open no-edit = refl
+  tally-kept pair inspect no-open no-edit = ap (λ (t′ : Tables). t′ .tally) (inspect-keeps n m t)
+  tally-kept pair refresh no-open no-edit = check-holds 1 t _ Kept _ refl λ _. check-holds 5 t _ Kept _ refl λ _. refl
