@@ -1,5 +1,5 @@
 -- Who enters an edit.
---     callers        the most callers
+--     callers        the most callers: the tally has a number for each
 --     caller         the caller with a number
 --     callerBelow    what the checked constructor gives: the caller with that number, if there is one
 -- Assumes nothing.

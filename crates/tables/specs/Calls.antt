@@ -42,7 +42,7 @@ openBook n m t =
 
 -- ---- The four edits
 
--- an edit of any caller begins so: the tables have their lengths, and the caller is one of the tally's
+-- every edit begins so: the tables have their lengths, and the tally has a number for the caller
 abbrev pub byCaller : {A : Type 0} → (n m : ℕ) → Tables → (caller : ℕ) → Outcome A → Outcome A
 byCaller n m t caller next =
     check 1 (shaped n m t) t
