@@ -195,8 +195,10 @@ static int run(const struct shape *s) {
             differ += renew(books, s) / (REPEATS * ROUNDS);
             choose(s->n, s->m, rules, links);
             for (int k = 0; k < 4; k++) {
-                for (int side = 0; side < SIDES; side++)
+                for (int i = 0; i < SIDES; i++) {
+                    int side = (round + i) % SIDES; /* who comes first on a new book takes longer: caches do not hold it yet */
                     times[side][k][r] += batch(calls[side][k], &books[side], k < 2 ? rules : links, &sum[side]) / ROUNDS;
+                }
                 if (sum[LIBRARY] != sum[TWIN] || !same(&books[LIBRARY], &books[TWIN]) || !edited_alike(&books[LIBRARY], &books[BASE]))
                     return printf("%u x %u: %s differs\n", s->n, s->m, name[k]), 1;
             }
