@@ -5,7 +5,7 @@
 --     at-refuses, link-refuses, caller-refuses     .. and of one that was not
 --     find-at, find-refused                  find by these cases
 -- Assumes nothing.
-use mathlib.Core.Path.{_≡_, refl, ap, _∙_}
+use mathlib.Core.Path.{_≡_, refl, ap}
 use mathlib.Core.Bool.{Bool, true, false, cond, _&&_}
 use Prim.Native.Nat.{ℕ, _+_, _*_, _<_}
 use native.Mathlib.Omega.{arith}

@@ -1,5 +1,5 @@
 -- An edit of a link, step by step.
---     caller-refused                           refusals 1 and 13
+--     first-refused                            refusals 1 and 13
 --     link-refused, link-passed                refusal 2, and what comes after it
 --     added-link, taken-link                   the two calls are the two cases of `linkCall`
 --     judged-links                             what the rows and the places reached say is what the links say
@@ -7,16 +7,15 @@
 --     link-acyclic, link-allowed               where none of them is given: no kind is then above itself, and what comes after
 -- Assumes nothing.
 use mathlib.Core.Path.{_≡_, refl, sym, _∙_, ap, ap₂}
-use mathlib.Core.Bool.{Bool, true, false, cond, _&&_, _||_}
+use mathlib.Core.Bool.{Bool, true, false, _||_}
 use mathlib.Core.List.{List}
 use Prim.Native.Nat.{ℕ, _<_}
 use native.Mathlib.Omega.{arith}
-use borrow.Author.Tests.{eq-eqb, eqb-true, lt-ltb, ltb-true}
-use lib.Dec.{eqb, ltb}
+use borrow.Author.Tests.{eq-eqb, eqb-true}
+use lib.Dec.{eqb}
 use Rattle.inheritance.specs.declared.Kind.{Kind}
-use Rattle.inheritance.specs.declared.CheckedKind.{CheckedKind}
 use Rattle.inheritance.specs.Above.{above, Acyclic}
-use Rattle.inheritance.specs.Checked.{kind, kindBelow}
+use Rattle.inheritance.specs.Checked.{kindBelow}
 use Rattle.inheritance.proofs.AboveLaws.{above-same}
 use Rattle.inheritance.proofs.Bools.{same-bool}
 use Rattle.relation.specs.Bit.{bit}
@@ -42,9 +41,9 @@ use Rattle.resettling.proofs.KnownLaws.{has, known-place}
 
 module _ (n m : ℕ) (t : Tables) (by c p : ℕ) where
   module _ (adding : Bool) where
-    pub caller-refused : {why : Refusal} → checkedCaller n m t by ≡ CallerAsked.Refused why → leaves (refused (refusalNumber why)) t ≡ linkCall n m t by c p adding
+    pub first-refused : {why : Refusal} → checkedCaller n m t by ≡ CallerAsked.Refused why → leaves (refused (refusalNumber why)) t ≡ linkCall n m t by c p adding
     unfolding linkCall
-    caller-refused e = sym (caller-refuses n m t by _ e)
+    first-refused e = sym (caller-refuses n m t by _ e)
 
     module _ {b : Caller} (known : checkedCaller n m t by ≡ CallerAsked.By b) where
       pub link-refused : {why : Refusal} → askedLink (kindBelow n c) (kindBelow n p) ≡ LinkAsked.Refused why

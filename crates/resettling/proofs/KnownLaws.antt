@@ -22,7 +22,7 @@ use Rattle.soundness.proofs.Soundness.{rows-links, links-rows}
 use Rattle.tables.specs.Caller.{callers}
 use Rattle.tables.specs.Calls.{leaves, accepted}
 use Rattle.tables.specs.Reply.{given}
-use Rattle.tables.specs.Tables.{Tables, lent, shaped, Sized, upOf, entriesOf, sound, tallied}
+use Rattle.tables.specs.Tables.{Tables, lent, shaped, Sized, upOf, entriesOf, tallied}
 use Rattle.tables.proofs.EditLaws.{Passed, passed}
 use Rattle.tables.proofs.ShapeLaws.{sized-facts, shape-sized}
 use Rattle.tables.proofs.SoundLaws.{acyclic-agree, entriesOf-agree}

@@ -1,5 +1,5 @@
 -- An edit of a rule, step by step.
---     caller-refused                              refusals 1 and 13
+--     first-refused                               refusals 1 and 13
 --     rule-refused, rule-handling, rule-passed    refusals 2 and 3, refusal 4 of an add, and what comes after them
 --     added-rule, taken-rule                      the two calls are the two cases of `ruleCall`
 --     rule-unsound, rule-absent                   refusals 5 and 6
@@ -36,10 +36,10 @@ use Rattle.rule_edits.specs.RuleEdit.{ruleEdit, ruleCall}
 
 module _ (n m : ℕ) (t : Tables) (by c i : ℕ) where
   module _ (handling : ℕ) (adding : Bool) where
-    pub caller-refused : {why : Refusal} → checkedCaller n m t by ≡ CallerAsked.Refused why
+    pub first-refused : {why : Refusal} → checkedCaller n m t by ≡ CallerAsked.Refused why
         → leaves (refused (refusalNumber why)) t ≡ ruleCall n m t by c i handling adding
     unfolding ruleCall
-    caller-refused e = sym (caller-refuses n m t by _ e)
+    first-refused e = sym (caller-refuses n m t by _ e)
 
     module _ {b : Caller} (known : checkedCaller n m t by ≡ CallerAsked.By b) where
       pub rule-refused : {why : Refusal} → askedAt (kindBelow n c) (markBelow m i) ≡ Asked.Refused why

@@ -13,13 +13,13 @@ use Prim.Native.Nat.{ℕ, zero, suc, _+_, _-_, _*_, _<_, _≤_}
 use native.Mathlib.Omega.{arith}
 use borrow.Author.Tests.{lt-ltb, not-true, eqb-false}
 use lib.Dec.{eqb}
-use lib.ListN.{length, getD}
+use lib.ListN.{getD}
 use Rattle.inheritance.specs.declared.Lookup.{Lookup}
 use Rattle.inheritance.specs.declared.Lookup.the-variants.{None, Rule, Dispute}
 use Rattle.inheritance.specs.Lookup.{lookup}
 use Rattle.inheritance.proofs.LookupLaws.{InRange, lookup-range}
 use Rattle.tables.specs.Entry.{entryOf}
-use Rattle.tables.specs.Reply.{Reply, refused, given, Finding, Fault}
+use Rattle.tables.specs.Reply.{refused, given, Finding, Fault}
 use Rattle.tables.specs.Tables.{Tables, shaped, upOf, ownOf, entryAt, all-below, byte-right, bytes-right, kind-free, entry-right, well-linked, sound-over, sound}
 use Rattle.tables.specs.Calls as calls
 use Rattle.tables.specs.Calls.{Outcome, check, leaves, findingOf, handled, lowest, firstFault, faultOf}

@@ -2,7 +2,7 @@
 --     tally-counts    each caller's number is the count of that caller's edits accepted since the last accepted open, or 4,294,967,295 where there
 --                     were more
 -- Assumes nothing.
-use mathlib.Core.Path.{_≡_, refl, sym, ap, _∙_}
+use mathlib.Core.Path.{_≡_, sym, ap, _∙_}
 use mathlib.Core.Bool.{Bool, true, false}
 use mathlib.Core.List.{List, [], _∷_}
 use mathlib.Core.Logic.{_≢_, by-cases}

@@ -8,7 +8,7 @@ use Rattle.asking.specs.declared.LinkAsked.{LinkAsked}
 use Rattle.asking.specs.Ask.{askedLink, checkedCaller}
 use Rattle.tables.specs.Tables.{Tables, lent}
 use Rattle.asking.proofs.AskLaws.{asked-between, asked-by}
-use Rattle.link_edits.proofs.LinkEditLaws.{caller-refused, link-refused, link-passed}
+use Rattle.link_edits.proofs.LinkEditLaws.{first-refused, link-refused, link-passed}
 use Rattle.link_edits.proofs.change_link.Statement.{statement}
 use Rattle.link_edits.proofs.change_link.Tie as tie
 
@@ -45,7 +45,7 @@ edit-link-requires c κs =
 returns : tie.Need-returns
 returns c =
     let x = c .before .before .before in
-    caller-refused _ _ (book x) _ _ _ (start x .args .adding) (sym (x .ask-caller .ensures) ∙ c .before .why .given .1)
+    first-refused _ _ (book x) _ _ _ (start x .args .adding) (sym (x .ask-caller .ensures) ∙ c .before .why .given .1)
 
 returns-2 : tie.Need-returns-2
 returns-2 c =

@@ -8,7 +8,7 @@ use Rattle.asking.specs.declared.CallerAsked.{CallerAsked}
 use Rattle.asking.specs.Ask.{askedAt, checkedCaller}
 use Rattle.tables.specs.Tables.{Tables, lent}
 use Rattle.asking.proofs.AskLaws.{asked-at, asked-by}
-use Rattle.rule_edits.proofs.RuleEditLaws.{caller-refused, rule-refused, rule-handling, rule-passed}
+use Rattle.rule_edits.proofs.RuleEditLaws.{first-refused, rule-refused, rule-handling, rule-passed}
 use Rattle.rule_edits.proofs.change_rule.Statement.{statement}
 use Rattle.rule_edits.proofs.change_rule.Tie as tie
 
@@ -45,7 +45,7 @@ edit-rule-requires c κs =
 returns : tie.Need-returns
 returns c =
     let x = c .before .before .before in
-    caller-refused _ _ (book x) _ _ _ _ (start x .args .adding) (sym (x .ask-caller .ensures) ∙ c .before .why .given .1)
+    first-refused _ _ (book x) _ _ _ _ (start x .args .adding) (sym (x .ask-caller .ensures) ∙ c .before .why .given .1)
 
 returns-2 : tie.Need-returns-2
 returns-2 c =
