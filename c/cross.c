@@ -1,12 +1,14 @@
 /* Holds every call of a house to docs/SCOPE.md as this file reads it: the kinds seen, those left of them and a plain
-   recursive lookup, and the edits by working every entry out anew.
+   recursive lookup, and the edits by working every entry out anew and counting the disputes anew.
    All books of up to 3 kinds and 2 marks whose links have no cycle, and many random ones of 4 to 6 kinds and 2 marks:
    every call on each, with every kind and mark, the first that there is not, and the largest number, and an edit with
-   each of these for some caller and for one that there is not; with each table one too short and one too long, and the
-   tally as short as it once was; and again on the book damaged, and as it was stored when the lookup was another.
-   Callers and the numbers of the tally are drawn, so that they meet all the rest and do not multiply it. A few named
-   books have their answers and entries written out as well, and larger tables show the edges of the sizes.
-   It fails where a call differs, and where an answer of a call came up too seldom. */
+   each of these for some caller and for one that there is not; with each table one too short and one too long, the
+   tally as short as it once was, and disputes of other lengths; and again on the book damaged, with its counts of
+   disputes alone wrong and with other damage beside that, and as it was stored when the lookup was another.
+   Callers, the numbers of the tally and the damage to counts are drawn, so that they meet all the rest and do not
+   multiply it. A few named books have their answers, entries and counts written out as well, and larger tables show the
+   edges of the sizes and the highest counts.
+   It fails where a call differs, and where an answer of a call or a sort of damage came up too seldom. */
 
 #include <stdio.h>
 #include <stdlib.h>
@@ -16,14 +18,16 @@
 
 #define MANY(list) (sizeof(list) / sizeof *(list))
 
-enum { KINDS = 6, MARKS = 2 };
+enum { KINDS = 6, MARKS = 2, MOST_MARKS = 64, TABLES = 5 };
 
-/* Each table has room for one element more at least. There is no padding: books are compared as memory. */
+/* Each table has room for one element more at least, and disputes for as many marks as any book has. There is no
+   padding: books are compared as memory. */
 struct book {
     uint16_t n, m;
     uint8_t links[KINDS * KINDS + 4];
     uint16_t rules[KINDS * MARKS + 2], entries[KINDS * MARKS + 2];
     uint32_t tally[HOUSE_CALLERS + 1];
+    uint16_t disputes[MOST_MARKS + 2];
 };
 
 /* ---- chance */
@@ -85,12 +89,13 @@ struct lent {
     uint8_t *links;
     uint16_t *rules, *entries;
     uint32_t *tally;
-    size_t lengths[4];
+    uint16_t *disputes;
+    size_t lengths[TABLES];
 };
 
 #define LENT(t)                                                                                              \
     (t)->n, (t)->m, (t)->links, (t)->lengths[0], (t)->rules, (t)->lengths[1], (t)->entries, (t)->lengths[2], \
-        (t)->tally, (t)->lengths[3]
+        (t)->tally, (t)->lengths[3], (t)->disputes, (t)->lengths[4]
 
 /* What the library answers. */
 static uint32_t make(enum call call, const struct lent *t, struct arguments a) {
@@ -109,7 +114,8 @@ static uint32_t make(enum call call, const struct lent *t, struct arguments a) {
 /* A book with the lengths that it should have. */
 static struct lent lend(struct book *b) {
     size_t n = b->n, m = b->m;
-    return (struct lent){b->n, b->m, b->links, b->rules, b->entries, b->tally, {n * n, n * m, n * m, HOUSE_CALLERS}};
+    return (struct lent){b->n,     b->m,        b->links, b->rules, b->entries,
+                         b->tally, b->disputes, {n * n, n * m, n * m, HOUSE_CALLERS, m}};
 }
 
 static uint32_t made(enum call call, struct book *b) {
@@ -179,6 +185,18 @@ static unsigned old_lookup(const struct book *b, unsigned c, unsigned mark) {
     return shared;
 }
 
+/* How many kinds have a dispute entry for the mark. */
+static uint16_t disputed(const struct book *b, unsigned mark) {
+    uint16_t kinds = 0;
+    for (unsigned c = 0; c < b->n; c++)
+        if (b->entries[c * b->m + mark] >= 257) kinds++;
+    return kinds;
+}
+
+static void count_disputes(struct book *b) {
+    for (unsigned j = 0; j < b->m; j++) b->disputes[j] = disputed(b, j);
+}
+
 static uint32_t work_out(struct book *b) {
     uint32_t count = 0;
     for (unsigned i = 0; i < (unsigned)b->n * b->m; i++) {
@@ -186,6 +204,7 @@ static uint32_t work_out(struct book *b) {
         count += b->entries[i] != entry;
         b->entries[i] = (uint16_t)entry;
     }
+    count_disputes(b);
     return count;
 }
 
@@ -196,6 +215,8 @@ static uint32_t inspected(const struct book *b) {
         if (above(b, c, c)) return HOUSE_ABOVE_ITSELF + c;
     for (unsigned i = 0; i < (unsigned)b->n * b->m; i++)
         if (b->entries[i] != lookup(b, i / b->m, i % b->m)) return HOUSE_WRONG_ENTRY + i;
+    for (unsigned j = 0; j < b->m; j++)
+        if (b->disputes[j] != disputed(b, j)) return HOUSE_WRONG_COUNT + j;
     return HOUSE_SOUND;
 }
 
@@ -204,6 +225,7 @@ static uint32_t emptied(struct lent t) {
     memset(t.rules, 0, sizeof *t.rules * t.lengths[1]);
     memset(t.entries, 0, sizeof *t.entries * t.lengths[2]);
     memset(t.tally, 0, sizeof *t.tally * t.lengths[3]);
+    memset(t.disputes, 0, sizeof *t.disputes * t.lengths[4]);
     return 0;
 }
 
@@ -263,8 +285,11 @@ static uint32_t expect(enum call call, struct book *b, struct arguments a, uint3
 
 static unsigned long books, old_books, calls_made;
 
-/* How often each call gave each refusal, and under 0 any other answer. */
-static unsigned long answers[CALLS][14];
+/* How often each call gave each refusal, and under 0 any other answer; and inspect each fault, by its 65536s. */
+static unsigned long answers[CALLS][14], faults[HOUSE_WRONG_COUNT / 65536 + 1];
+
+/* How often an edit changed a count, and how often only entries. */
+static unsigned long counts_moved, counts_kept;
 
 static void fail_at(const char *what, unsigned n, unsigned m) {
     fprintf(stderr, "%s differs on a book of %u kinds and %u marks\n", what, n, m);
@@ -282,6 +307,8 @@ static void fail(const char *what, const struct book *b) {
     }
     fprintf(stderr, " tally");
     for (unsigned c = 0; c < HOUSE_CALLERS; c++) fprintf(stderr, " %lu", (unsigned long)b->tally[c]);
+    fprintf(stderr, "  disputes");
+    for (unsigned j = 0; j < b->m; j++) fprintf(stderr, " %u", b->disputes[j]);
     fprintf(stderr, "\n");
     fail_at(what, b->n, b->m);
 }
@@ -292,16 +319,34 @@ static uint32_t counted(enum call call, const struct lent *t, struct arguments a
     calls_made++;
     if (!house_is_refusal(answer)) answers[call][0]++;
     else if (house_refusal(answer) < MANY(answers[call])) answers[call][house_refusal(answer)]++;
+    if (call == INSPECT && answer / 65536 < MANY(faults)) faults[answer / 65536]++;
     return answer;
 }
 
-/* The answer and all four tables are the same. */
+static int same_entries(const struct book *a, const struct book *b, unsigned mark) {
+    for (unsigned c = 0; c < b->n; c++)
+        if (a->entries[c * b->m + mark] != b->entries[c * b->m + mark]) return 0;
+    return 1;
+}
+
+/* An edit changes a count only at a mark where it changes entries. This is held by itself, whatever the counts are. */
+static void hold_other_marks(enum call call, const struct book *before, const struct book *after) {
+    for (unsigned j = 0; j < before->m; j++) {
+        int counts = before->disputes[j] != after->disputes[j], entries = !same_entries(before, after, j);
+        if (counts && !entries) fail(calls[call].name, before);
+        counts_moved += (unsigned long)counts;
+        counts_kept += (unsigned long)(entries && !counts);
+    }
+}
+
+/* The answer and all five tables are the same. */
 static void try_call(enum call call, const struct book *b, struct arguments a, uint32_t fault) {
     struct book ours = *b, theirs = *b;
     struct lent t = lend(&theirs);
     uint32_t given = counted(call, &t, a);
     if (expect(call, &ours, a, fault, given) != given || memcmp(&ours, &theirs, sizeof ours) != 0)
         fail(calls[call].name, b);
+    if (is_edit(call)) hold_other_marks(call, b, &theirs);
 }
 
 /* How many numbers are tried for an argument, and which: the kinds or marks of the book, the first that it has not, and
@@ -329,18 +374,33 @@ static void try_calls(const struct book *b) {
     }
 }
 
-/* Every call with a length that is one off, and with a tally of no number or of one, as it once was, whatever its
-   arguments. */
-static void try_lengths(const struct book *b) {
+/* Every call with a wrong length of one table, whatever its arguments. */
+static void try_length(const struct book *b, unsigned table, size_t length) {
     struct book lent = *b;
-    for (enum call call = 0; call < CALLS; call++)
-        for (unsigned i = 0; i < 5 * 2 * 2; i++) {
-            struct lent t = lend(&lent);
-            if (i / 4 < 4) t.lengths[i / 4] += i % 2 == 0 ? 1 : (size_t)-1;
-            else t.lengths[3] = i % 2;
-            uint32_t given = counted(call, &t, i / 2 % 2 == 0 ? good : bad);
-            if (given != HOUSE_REFUSED_BOOK || memcmp(&lent, b, sizeof lent) != 0) fail(calls[call].name, b);
-        }
+    for (unsigned i = 0; i < CALLS * 2; i++) {
+        enum call call = i / 2;
+        struct lent t = lend(&lent);
+        t.lengths[table] = length;
+        uint32_t given = counted(call, &t, i % 2 == 0 ? good : bad);
+        if (given != HOUSE_REFUSED_BOOK || memcmp(&lent, b, sizeof lent) != 0) fail(calls[call].name, b);
+    }
+}
+
+/* Lengths that are one off; a tally of no number or of one, as it once was; disputes of no mark, of bytes, of as many
+   marks as any book has and of any too many. */
+static void try_lengths(const struct book *b) {
+    struct book copy = *b;
+    struct lent right = lend(&copy);
+    for (unsigned table = 0; table < TABLES; table++) {
+        try_length(b, table, right.lengths[table] - 1);
+        try_length(b, table, right.lengths[table] + 1);
+    }
+    try_length(b, 3, 0);
+    try_length(b, 3, 1);
+    try_length(b, 4, 0);
+    try_length(b, 4, 2u * b->m);
+    try_length(b, 4, MOST_MARKS);
+    try_length(b, 4, between(b->m + 1u, MOST_MARKS + 1));
 }
 
 /* How often a call that may refuse with 5 got past that: its other answers and the refusals that are checked later, of
@@ -355,8 +415,68 @@ static unsigned long past_five(void) {
     return sum;
 }
 
-/* The book as it was stored when entries were worked out by the old lookup. If it differs: inspect names the lowest
-   place, no edit gets past refusal 5, and refresh brings the book over. */
+/* A book that is sound but for its entries and counts: inspect names the fault, no call gets past refusal 5, and
+   refresh answers how many entries it changed and makes it the right book again. */
+static void try_mended(struct book b, uint32_t fault, uint32_t count, const struct book *right) {
+    if (made(INSPECT, &b) != fault) fail("inspect of a book to mend", &b);
+    unsigned long before = past_five();
+    try_calls(&b);
+    if (past_five() != before) fail("edit of a book to mend", &b);
+    if (made(REFRESH, &b) != count || memcmp(&b, right, sizeof b) != 0) fail("refresh of a book to mend", right);
+    if (made(INSPECT, &b) != HOUSE_SOUND) fail("inspect of a mended book", right);
+    if (house_is_refusal(made(ADD_RULE, &b))) fail("edit of a mended book", right);
+}
+
+/* The sorts of wrong counts. LOST and SWAPPED make a difference only where there are disputes. SHIFTED and SWAPPED keep
+   the sum. */
+enum { ONE_MORE, ONE_LESS, OTHER_BYTE, FULL, ANYTHING, SHIFTED, LOST, SWAPPED, SORTS };
+
+static unsigned long wrong_counts[SORTS];
+
+static void spoil_counts(struct book *b, unsigned sort) {
+    unsigned mark = (unsigned)chance() % b->m;
+    uint16_t *one = &b->disputes[mark], *other = &b->disputes[(mark + 1) % b->m], was = *one;
+    switch (sort) {
+    case ONE_MORE: ++*one; break;
+    case ONE_LESS: --*one; break;
+    case OTHER_BYTE: *one ^= (uint16_t)(256u << chance() % 8); break;
+    case FULL: *one = UINT16_MAX; break;
+    case ANYTHING: *one = (uint16_t)chance(), *other = between(0, b->n); break;
+    case SHIFTED: ++*one, --*other; break;
+    case LOST: memset(b->disputes, 0, sizeof *b->disputes * b->m); break;
+    default: *one = *other, *other = was;
+    }
+}
+
+/* The lowest mark where the counts of two books differ, or m. */
+static unsigned other_count(const struct book *a, const struct book *b) {
+    unsigned mark = 0;
+    while (mark < b->m && a->disputes[mark] == b->disputes[mark]) mark++;
+    return mark;
+}
+
+/* The book with wrong counts and nothing else wrong: those that need disputes wherever they make a difference, and of
+   the others one in turn. */
+static void try_wrong_counts(const struct book *b) {
+    for (unsigned sort = 0; sort < SORTS; sort++) {
+        struct book spoilt = *b;
+        if (sort < LOST && sort != books % LOST) continue;
+        spoil_counts(&spoilt, sort);
+        unsigned mark = other_count(&spoilt, b);
+        if (mark == b->m) continue;
+        wrong_counts[sort]++;
+        try_mended(spoilt, HOUSE_WRONG_COUNT + mark, 0, b);
+    }
+}
+
+/* Counts for a book whose entries or links are damaged: as they were, those of the entries as they stand, or wrong. */
+static void draw_counts(struct book *b) {
+    unsigned long way = chance() % 3;
+    if (way > 0) count_disputes(b);
+    if (way > 1) spoil_counts(b, (unsigned)chance() % SORTS);
+}
+
+/* The book as it was stored when entries were worked out by the old lookup, if that differs. */
 static void try_old(const struct book *b) {
     struct book old = *b;
     uint32_t count = 0, lowest = 0;
@@ -368,13 +488,8 @@ static void try_old(const struct book *b) {
     }
     if (count == 0) return;
     old_books++;
-    if (made(INSPECT, &old) != HOUSE_WRONG_ENTRY + lowest) fail("inspect of an old book", &old);
-    unsigned long before = past_five();
-    try_calls(&old);
-    if (past_five() != before) fail("edit of an old book", &old);
-    if (made(REFRESH, &old) != count || memcmp(&old, b, sizeof old) != 0) fail("refresh of an old book", b);
-    if (made(INSPECT, &old) != HOUSE_SOUND) fail("inspect of a book brought over", b);
-    if (house_is_refusal(made(ADD_RULE, &old))) fail("edit of a book brought over", b);
+    draw_counts(&old);
+    try_mended(old, HOUSE_WRONG_ENTRY + lowest, count, b);
 }
 
 static void try_book(const struct book *b) {
@@ -382,12 +497,16 @@ static void try_book(const struct book *b) {
     books++;
     try_calls(b);
     try_lengths(b);
+    try_wrong_counts(b);
     try_old(b);
     /* one entry wrong, then one link byte */
-    damaged.entries[books % ((unsigned)b->n * b->m)] ^= (uint16_t)(1 + books % 3);
+    uint16_t *entry = &damaged.entries[books % ((unsigned)b->n * b->m)];
+    *entry ^= (uint16_t)(chance() % 2 == 0 ? 1 + books % 3 : 256);
+    draw_counts(&damaged);
     try_calls(&damaged);
     damaged = *b;
     damaged.links[books % ((unsigned)b->n * b->n)] ^= (uint8_t)(1 + books % 3);
+    draw_counts(&damaged);
     try_calls(&damaged);
 }
 
@@ -398,6 +517,7 @@ static int make_book(struct book *b, uint16_t n, uint16_t m, unsigned long links
     b->n = n;
     b->m = m;
     for (unsigned c = 0; c < MANY(b->tally); c++) b->tally[c] = tallied();
+    for (unsigned j = 0; j < MANY(b->disputes); j++) b->disputes[j] = (uint16_t)chance();
     for (unsigned i = 0; i < (unsigned)n * n; i++) b->links[i] = links >> i & 1;
     for (unsigned i = 0; i < (unsigned)n * m; i++) b->rules[i] = rules >> i & 1 ? (i / m % 3 == 0 ? 10 : 20) : 0;
     for (unsigned c = 0; c < n; c++)
@@ -424,8 +544,14 @@ static struct book named_book(uint16_t n, uint16_t m, const struct pair *links, 
     return b;
 }
 
+static void hold_counts(const char *what, const struct book *b, const uint16_t *counts) {
+    if (memcmp(b->disputes, counts, sizeof *counts * b->m) != 0) fail(what, b);
+}
+
+/* Entries and counts as they are written out: of n kinds and m marks, n * m entries and then m counts. */
 static void hold_entries(const char *what, const struct book *b, const uint16_t *entries) {
     if (memcmp(b->entries, entries, sizeof *entries * b->n * b->m) != 0) fail(what, b);
+    hold_counts(what, b, entries + b->n * b->m);
 }
 
 /* Calls in a row, with what each answers. */
@@ -442,7 +568,7 @@ static void hold_answers(const char *what, struct book *b, const struct step *st
     }
 }
 
-/* A book whose entries are written out before an edit and after it. */
+/* A book whose entries and counts are written out before an edit and after it. */
 static void try_edit(const char *what, struct book b, const uint16_t *before, struct step edit, const uint16_t *after) {
     hold_entries(what, &b, before);
     try_book(&b);
@@ -454,7 +580,7 @@ static void try_edit(const char *what, struct book b, const uint16_t *before, st
 /* Kind 1 is put below kind 0 and keeps its own rule; for kind 2, below both, it now hides that of kind 0. */
 static void try_link_past_own_rule(void) {
     static const struct pair links[] = {{2, 0}, {2, 1}}, rules[] = {{0, 10}, {1, 20}};
-    static const uint16_t before[] = {1, 2, 259}, after[] = {1, 2, 2};
+    static const uint16_t before[] = {1, 2, 259, 1}, after[] = {1, 2, 2, 0};
     try_edit("a link past an own rule", named_book(3, 1, links, MANY(links), rules, MANY(rules)), before,
              (struct step){ADD_LINK, {0, 1, 0, 0}, 1}, after);
 }
@@ -464,7 +590,7 @@ static void try_link_past_own_rule(void) {
 static void try_rule_past_same_entry(void) {
     static const struct pair links[] = {{3, 0}, {3, 1}, {3, 2}, {4, 0}, {4, 1}, {5, 3}, {5, 4}},
                              rules[] = {{0, 10}, {1, 20}, {4, 20}};
-    static const uint16_t before[] = {1, 2, 0, 260, 5, 5}, after[] = {1, 2, 3, 260, 5, 262};
+    static const uint16_t before[] = {1, 2, 0, 260, 5, 5, 1}, after[] = {1, 2, 3, 260, 5, 262, 2};
     try_edit("a rule past the same entry", named_book(6, 1, links, MANY(links), rules, MANY(rules)), before,
              (struct step){ADD_RULE, {0, 2, 0, 20}, 2}, after);
 }
@@ -472,8 +598,8 @@ static void try_rule_past_same_entry(void) {
 /* The diamond, stored when kind 3 was still disputed: nothing is edited before refresh has brought it over. */
 static void try_stored_diamond(void) {
     static const struct pair links[] = {{1, 0}, {2, 0}, {3, 1}, {3, 2}}, rules[] = {{0, 10}, {1, 20}};
-    static const uint16_t stored[] = {1, 0, 2, 0, 1, 0, 260, 0}, now[] = {1, 0, 2, 0, 1, 0, 2, 0},
-                          after[] = {1, 0, 2, 0, 3, 0, 260, 0};
+    static const uint16_t stored[] = {1, 0, 2, 0, 1, 0, 260, 0, 1, 0}, now[] = {1, 0, 2, 0, 1, 0, 2, 0, 0, 0},
+                          after[] = {1, 0, 2, 0, 3, 0, 260, 0, 1, 0};
     static const struct step refused[] =
         {
             {INSPECT, {0, 0, 0, 0}, HOUSE_WRONG_ENTRY + 6},
@@ -493,7 +619,8 @@ static void try_stored_diamond(void) {
     struct book b = named_book(4, 2, links, MANY(links), rules, MANY(rules)), lent;
     hold_entries("the diamond", &b, now);
     try_book(&b);
-    for (unsigned i = 0; i < MANY(stored); i++) b.entries[i] = (uint16_t)old_lookup(&b, i / b.m, i % b.m);
+    for (unsigned i = 0; i < (unsigned)b.n * b.m; i++) b.entries[i] = (uint16_t)old_lookup(&b, i / b.m, i % b.m);
+    count_disputes(&b);
     hold_entries("the stored diamond", &b, stored);
     lent = b;
     hold_answers("a call on the stored diamond", &lent, refused, MANY(refused));
@@ -504,6 +631,32 @@ static void try_stored_diamond(void) {
     hold_entries("an edit of the diamond brought over", &lent, after);
 }
 
+/* A session with the counts of both marks after each call. Kind 2 is under kinds 0 and 1, and kind 3 under kind 2: a
+   rule at kind 3 ends one of two disputes; kind 3 under kind 0 too is disputed at itself, and the count stays. */
+static void try_counted_session(void) {
+    static const struct {
+        struct step step;
+        uint16_t counts[2];
+    } session[] = {
+        {{OPEN, {0, 0, 0, 0}, 0}, {0, 0}},      {{ADD_LINK, {0, 2, 0, 0}, 0}, {0, 0}},
+        {{ADD_LINK, {0, 2, 1, 0}, 0}, {0, 0}},  {{ADD_LINK, {0, 3, 2, 0}, 0}, {0, 0}},
+        {{ADD_RULE, {0, 0, 1, 20}, 3}, {0, 0}}, {{ADD_RULE, {0, 1, 1, 20}, 3}, {0, 2}},
+        {{ADD_RULE, {0, 3, 1, 20}, 1}, {0, 1}}, {{TAKE_RULE, {0, 3, 1, 0}, 1}, {0, 2}},
+        {{ADD_LINK, {0, 3, 0, 0}, 1}, {0, 2}},  {{TAKE_LINK, {0, 3, 0, 0}, 1}, {0, 2}},
+        {{ADD_RULE, {0, 0, 0, 10}, 3}, {0, 2}}, {{ADD_RULE, {0, 1, 0, 20}, 3}, {2, 2}},
+        {{ADD_RULE, {0, 1, 0, 10}, 0}, {2, 2}}, {{ADD_LINK, {0, 2, 3, 0}, HOUSE_REFUSED_CYCLE}, {2, 2}},
+        {{REFRESH, {0, 0, 0, 0}, 0}, {2, 2}},   {{TAKE_LINK, {0, 2, 1, 0}, 4}, {0, 0}},
+    };
+    struct book b;
+    memset(&b, 165, sizeof b);
+    b.n = 4;
+    b.m = 2;
+    for (size_t i = 0; i < MANY(session); i++) {
+        hold_answers("a counted session", &b, &session[i].step, 1);
+        hold_counts("a counted session", &b, session[i].counts);
+    }
+}
+
 /* ---- sizes at and past the edges */
 
 /* Tables for more kinds and marks than a book may have. */
@@ -511,12 +664,13 @@ static struct room {
     uint8_t links[129 * 129];
     uint16_t rules[129 * 65], entries[129 * 65];
     uint32_t tally[HOUSE_CALLERS];
+    uint16_t disputes[MOST_MARKS + 1];
 } room, other_room;
 
 /* Of a room its leading part, as long as the size asks. */
 static struct lent fitting(struct room *r, size_t n, size_t m) {
-    return (struct lent){
-        (uint16_t)n, (uint16_t)m, r->links, r->rules, r->entries, r->tally, {n * n, n * m, n * m, HOUSE_CALLERS}};
+    return (struct lent){(uint16_t)n, (uint16_t)m, r->links, r->rules, r->entries,
+                         r->tally,    r->disputes, {n * n, n * m, n * m, HOUSE_CALLERS, m}};
 }
 
 /* Every call refuses a size outside the range, though the tables fit it, and writes nothing. */
@@ -554,19 +708,92 @@ static void try_sizes_at_the_edges(void) {
     }
 }
 
-/* Every answer of every call came up often. */
-static void hold_counts(void) {
-    int rare = old_books < 1000;
-    if (rare) fprintf(stderr, "only %lu books have other entries by the old lookup\n", old_books);
+/* NULL with 0 elements is refused, for all tables and for disputes alone. */
+static void try_null(void) {
+    struct lent none = {4, 2, NULL, NULL, NULL, NULL, NULL, {0, 0, 0, 0, 0}}, rest = fitting(&room, 4, 2);
+    rest.disputes = NULL;
+    rest.lengths[4] = 0;
+    for (enum call call = 0; call < CALLS; call++)
+        if (counted(call, &none, good) != HOUSE_REFUSED_BOOK || counted(call, &rest, good) != HOUSE_REFUSED_BOOK)
+            fail_at(calls[call].name, 4, 2);
+}
+
+/* ---- the largest book with as many disputes as there can be: all kinds from 2 on are under kinds 0 and 1, which both
+   have a rule for every mark. The library works on one room, and the other has what should be there. */
+
+enum { LARGEST = 128, DISPUTED = LARGEST - 2 };
+
+static void hold_room(const char *what, uint32_t given, uint32_t answer) {
+    if (given != answer || memcmp(&room, &other_room, sizeof room) != 0) fail_at(what, LARGEST, MOST_MARKS);
+}
+
+/* Gives the mark its two rules, of which the second makes the disputes. */
+static void dispute_mark(const struct lent *t, uint16_t mark) {
+    hold_room("no dispute", counted(INSPECT, t, good), HOUSE_SOUND);
+    for (uint16_t kind = 0; kind < 2; kind++) {
+        other_room.rules[kind * MOST_MARKS + mark] = 20;
+        other_room.tally[kind]++;
+        other_room.entries[kind * MOST_MARKS + mark] = (uint16_t)(kind + 1);
+        for (unsigned c = 2; c < LARGEST; c++)
+            other_room.entries[c * MOST_MARKS + mark] = (uint16_t)(kind == 0 ? 1 : 257 + c);
+        other_room.disputes[mark] = kind == 0 ? 0 : DISPUTED;
+        hold_room("a rule", counted(ADD_RULE, t, (struct arguments){kind, kind, mark, 20}), DISPUTED + 1);
+    }
+}
+
+/* One count wrong, and often one of a higher mark as well: inspect names the lower, edits and parties refuse, and
+   refresh puts both right. */
+static void spoil_mark(const struct lent *t, uint16_t mark) {
+    room.disputes[mark] ^= (uint16_t)(1u << chance() % 16);
+    other_room.disputes[mark] = room.disputes[mark];
+    uint16_t higher = between(mark, MOST_MARKS - 1);
+    if (higher > mark) other_room.disputes[higher] = room.disputes[higher] = (uint16_t)chance();
+    hold_room("inspect", counted(INSPECT, t, good), (uint32_t)HOUSE_WRONG_COUNT + mark);
+    for (enum call call = ADD_RULE; call <= TAKE_LINK; call++)
+        hold_room(calls[call].name, counted(call, t, good), HOUSE_REFUSED_UNSOUND);
+    hold_room("parties", counted(PARTIES, t, (struct arguments){0, 2, mark, 0}), HOUSE_REFUSED_UNSOUND);
+    other_room.disputes[mark] = other_room.disputes[higher] = DISPUTED;
+    hold_room("refresh", counted(REFRESH, t, good), 0);
+}
+
+static void try_highest_counts(void) {
+    struct lent t = fitting(&room, LARGEST, MOST_MARKS);
+    memset(&room, 165, sizeof room);
+    emptied(t);
+    for (unsigned c = 2; c < LARGEST; c++) room.links[c * LARGEST] = room.links[c * LARGEST + 1] = 1;
+    memcpy(&other_room, &room, sizeof room);
+    for (uint16_t mark = 0; mark < MOST_MARKS; mark++) dispute_mark(&t, mark);
+    for (uint16_t mark = 0; mark < MOST_MARKS; mark++) spoil_mark(&t, mark);
+    /* the last kind leaves kind 0: one dispute less for every mark */
+    other_room.links[(LARGEST - 1) * LARGEST] = 0;
+    other_room.tally[0]++;
+    for (unsigned mark = 0; mark < MOST_MARKS; mark++) {
+        other_room.entries[(LARGEST - 1) * MOST_MARKS + mark] = 2;
+        other_room.disputes[mark] = DISPUTED - 1;
+    }
+    hold_room("a link", counted(TAKE_LINK, &t, (struct arguments){0, LARGEST - 1, 0, 0}), MOST_MARKS);
+}
+
+/* ---- how often */
+
+static int rare(unsigned long times, const char *what, unsigned number) {
+    if (times < 1000) fprintf(stderr, "only %lu times: %s, %u\n", times, what, number);
+    return times < 1000;
+}
+
+/* Every refusal of every call came up often, with 0 for none, and so did every fault and every sort of wrong counts. */
+static void hold_often(void) {
+    int any = rare(old_books, "other entries by the old lookup", 0);
+    any |= rare(counts_moved, "an edit that changes a count", 0);
+    any |= rare(counts_kept, "an edit that changes entries and no count", 0);
     for (enum call call = 0; call < CALLS; call++)
         for (size_t i = 0; i < MANY(calls[call].refusals); i++) {
             unsigned refusal = calls[call].refusals[i];
-            unsigned long times = answers[call][refusal];
-            if (times >= 1000) continue;
-            fprintf(stderr, "%s gave refusal %u (0 is none) only %lu times\n", calls[call].name, refusal, times);
-            rare = 1;
+            any |= rare(answers[call][refusal], calls[call].name, refusal);
         }
-    if (rare) exit(EXIT_FAILURE);
+    for (unsigned i = HOUSE_LINK_BYTE / 65536; i < MANY(faults); i++) any |= rare(faults[i], "the fault, by 65536", i);
+    for (unsigned i = 0; i < SORTS; i++) any |= rare(wrong_counts[i], "wrong counts of sort", i);
+    if (any) exit(EXIT_FAILURE);
 }
 
 int main(void) {
@@ -583,9 +810,12 @@ int main(void) {
     try_link_past_own_rule();
     try_rule_past_same_entry();
     try_stored_diamond();
+    try_counted_session();
     try_sizes_outside();
     try_sizes_at_the_edges();
-    hold_counts();
+    try_null();
+    try_highest_counts();
+    hold_often();
     printf("%lu books, %lu of them all those of up to 3 kinds and 2 marks, %lu not sound as stored before; %lu calls\n",
            books, all, old_books, calls_made);
     return EXIT_SUCCESS;

@@ -4,11 +4,11 @@
 
 #include "lane.h"
 
-/* A book as it was handed over: how many kinds and marks, and the four tables with their lengths in bytes. */
+/* A book as it was handed over: how many kinds and marks, and the five tables with their lengths in bytes. */
 struct book {
     uint16_t n, m;
-    const uint8_t *links, *rules, *entries, *tally;
-    size_t links_len, rules_len, entries_len, tally_len;
+    const uint8_t *links, *rules, *entries, *tally, *disputes;
+    size_t links_len, rules_len, entries_len, tally_len, disputes_len;
 };
 
 /* The diamond of docs/FORMS.md, once kinds 0, 1 and 2 have their rules: 4 kinds and 2 marks. Kinds 1 and 2 are under
@@ -44,15 +44,18 @@ static const uint8_t entries[2 * 4 * 2] = {
     4, 1, 0, 0, /* kind 3: 257 + 3 = 260 = 4 + 256 * 1, a dispute at kind 3; none */
 };
 static const uint8_t tally[LANE_TALLY_BYTES] = {7}; /* seven edits of caller 0 were accepted: four links, three rules */
+static const uint8_t disputes[2 * 2] = {1, 0, 0, 0}; /* mark 0: one kind has a dispute entry, kind 3; mark 1: none */
 
 static const struct book session = {
-    4, 2, links, rules, entries, tally, sizeof links, sizeof rules, sizeof entries, sizeof tally,
+    4, 2, links, rules, entries, tally, disputes,
+    sizeof links, sizeof rules, sizeof entries, sizeof tally, sizeof disputes,
 };
 
 /* Asks the book about a fruit and prints what the lane should do with it. */
 static void sort(const struct book *book, uint16_t kind, uint16_t mark) {
     uint32_t answer = lane_find(book->n, book->m, book->links, book->links_len, book->rules, book->rules_len,
-                                book->entries, book->entries_len, book->tally, book->tally_len, kind, mark);
+                                book->entries, book->entries_len, book->tally, book->tally_len, book->disputes,
+                                book->disputes_len, kind, mark);
     printf("kind %d, mark %d: ", kind, mark);
     if (lane_is_rule(answer)) {
         printf("handle as %d, by the rule of kind %d\n", lane_handling(answer), lane_kind(answer));

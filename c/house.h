@@ -5,17 +5,19 @@
    writes target/staticlib/libhouse.a, which links into x86-64 programs, beside liblane.a where a program asks the find
    too.
 
-   THE BOOK. A book has n kinds (1 to 128, numbered from 0) and m marks (1 to 64, numbered from 0). It is four tables,
+   THE BOOK. A book has n kinds (1 to 128, numbered from 0) and m marks (1 to 64, numbered from 0). It is five tables,
    which are the program's own memory:
 
-     table    elements  their number  what it holds
-     links    uint8_t   n * n         place child * n + parent holds 1 where the child is directly under the parent, and
-                                      0 for no link
-     rules    uint16_t  n * m         place kind * m + mark holds the kind's own handling for the mark, 1 to 65535, or 0
-                                      for no own rule
-     entries  uint16_t  n * m         at the same places the lookup (below): 0 for none, O + 1 for the rule of kind O,
-                                      257 + X for a dispute at kind X
-     tally    uint32_t  16            place c holds the accepted edits of caller c since opening; at 4294967295 it stays
+     table     elements  their number  what it holds
+     links     uint8_t   n * n         place child * n + parent holds 1 where the child is directly under the parent,
+                                       and 0 for no link
+     rules     uint16_t  n * m         place kind * m + mark holds the kind's own handling for the mark, 1 to 65535, or
+                                       0 for no own rule
+     entries   uint16_t  n * m         at the same places the lookup (below): 0 for none, O + 1 for the rule of kind O,
+                                       257 + X for a dispute at kind X
+     tally     uint32_t  16            place c holds the accepted edits of caller c since opening; at 4294967295 it
+                                       stays
+     disputes  uint16_t  m             place mark holds how many kinds have a dispute entry for the mark
 
    CALLERS. A caller is whoever enters an edit, such as one of two suppliers. The house gives its callers numbers from
    0 to 15, and each edit takes the number of the one who entered it, so that the tally has how many edits of each were
@@ -28,10 +30,11 @@
    parent whose lookup is not none has the dispute at X, otherwise at the kind itself. Handlings are not compared: two
    kinds that both say 20 are two.
 
-   A SOUND BOOK is one where every link byte is 0 or 1, no kind is above itself, and every entry is its lookup. Rules
-   and tally may hold anything. An opened book is sound, and each call leaves a sound book sound.
+   A SOUND BOOK is one where every link byte is 0 or 1, no kind is above itself, every entry is its lookup, and
+   disputes has the right count at every mark. Rules and tally may hold anything. An opened book is sound, and each call
+   leaves a sound book sound.
 
-   LENDING. Each call takes n, m and the four tables, each as a pointer and then its number of elements, not of bytes.
+   LENDING. Each call takes n, m and the five tables, each as a pointer and then its number of elements, not of bytes.
    It writes those tables that are not const, and nothing else of the program's. Numbers are the machine's own, which on
    x86-64 has the lowest byte first. A call takes each length at its word: that many elements must be there, at an
    address that is right for their type, and no two tables may overlap. A length that is not the book's is refused, so
@@ -42,14 +45,14 @@
    included, or a copy is edited and swapped in once the call is back, and lanes go on with the old one meanwhile. The
    library keeps nothing between calls, so calls on different books may run at the same time.
 
-   MEMORY. A call takes stack and nothing else. Leave it 40 KB: c/stack.c measures 37 KB for inspect and refresh, 24 KB
-   for parties and 22 KB for an edit, on 128 kinds in one chain of links, which calls go along by recursion. Open takes
-   what memset takes.
+   MEMORY. A call takes stack and nothing else. Leave it 40 KB: c/stack.c measures 39 KB for inspect, 37 KB for refresh,
+   24 KB for parties and 22 KB for an edit, on 128 kinds in one chain of links, which calls go along by recursion. Open
+   takes what memset takes.
 
    FOR LANES the same memory goes to lane_find as bytes, whose order lane.h asks for is that of x86-64:
 
      lane_find(n, m, links, n * n, (const uint8_t *)rules, 2 * n * m, (const uint8_t *)entries, 2 * n * m,
-               (const uint8_t *)tally, LANE_TALLY_BYTES, kind, mark) */
+               (const uint8_t *)tally, LANE_TALLY_BYTES, (const uint8_t *)disputes, 2 * m, kind, mark) */
 
 #ifndef HOUSE_H
 #define HOUSE_H
@@ -98,45 +101,49 @@ static inline unsigned house_refusal(uint32_t answer) {
 
 /* ---- open */
 
-/* All numbers of the four tables become 0, whatever they were: a book with no links and no rules. Answers 0.
+/* All numbers of the five tables become 0, whatever they were: a book with no links and no rules. Answers 0.
    Refusals: 1. */
 uint32_t house_open(uint16_t n, uint16_t m, uint8_t *links, size_t links_len, uint16_t *rules, size_t rules_len,
-                    uint16_t *entries, size_t entries_len, uint32_t *tally, size_t tally_len);
+                    uint16_t *entries, size_t entries_len, uint32_t *tally, size_t tally_len, uint16_t *disputes,
+                    size_t disputes_len);
 
 /* ---- the four edits */
 
-/* An edit changes one place of rules or of links, makes every entry its lookup again and adds 1 to its caller's number
-   in the tally, and to no other. It answers the number of places of entries that differ from before, 0 to n * m. 0 is
-   no refusal: the change was made. */
+/* An edit changes one place of rules or of links, makes every entry its lookup and every count of disputes right again,
+   and adds 1 to its caller's number in the tally, and to no other. A count changes only at a mark where an entry does.
+   It answers the number of places of entries that differ from before, 0 to n * m. 0 is no refusal: the change was
+   made. */
 
 /* The kind gets its own rule for the mark. A handling that is there is replaced, and the answer is then 0.
    Refusals: 1, 13, 2, 3, 4, 5. */
 uint32_t house_add_rule(uint16_t n, uint16_t m, const uint8_t *links, size_t links_len, uint16_t *rules,
                         size_t rules_len, uint16_t *entries, size_t entries_len, uint32_t *tally, size_t tally_len,
-                        uint16_t caller, uint16_t kind, uint16_t mark, uint16_t handling);
+                        uint16_t *disputes, size_t disputes_len, uint16_t caller, uint16_t kind, uint16_t mark,
+                        uint16_t handling);
 
 /* The kind loses its own rule for the mark. Refusals: 1, 13, 2, 3, 5, 6. */
 uint32_t house_take_rule(uint16_t n, uint16_t m, const uint8_t *links, size_t links_len, uint16_t *rules,
                          size_t rules_len, uint16_t *entries, size_t entries_len, uint32_t *tally, size_t tally_len,
-                         uint16_t caller, uint16_t kind, uint16_t mark);
+                         uint16_t *disputes, size_t disputes_len, uint16_t caller, uint16_t kind, uint16_t mark);
 
 /* The child comes to be directly under the parent. Refusals: 1, 13, 2, 5, 7, 9. */
 uint32_t house_add_link(uint16_t n, uint16_t m, uint8_t *links, size_t links_len, const uint16_t *rules,
                         size_t rules_len, uint16_t *entries, size_t entries_len, uint32_t *tally, size_t tally_len,
-                        uint16_t caller, uint16_t child, uint16_t parent);
+                        uint16_t *disputes, size_t disputes_len, uint16_t caller, uint16_t child, uint16_t parent);
 
 /* The child is no longer directly under the parent. Refusals: 1, 13, 2, 5, 8. */
 uint32_t house_take_link(uint16_t n, uint16_t m, uint8_t *links, size_t links_len, const uint16_t *rules,
                          size_t rules_len, uint16_t *entries, size_t entries_len, uint32_t *tally, size_t tally_len,
-                         uint16_t caller, uint16_t child, uint16_t parent);
+                         uint16_t *disputes, size_t disputes_len, uint16_t caller, uint16_t child, uint16_t parent);
 
 /* ---- refresh */
 
-/* Every entry becomes its lookup, whatever it was; links, rules and tally stay. Answers the number of places of entries
-   that differ from before. This mends a book whose entries alone are wrong. Refusals: 1, 5. */
+/* Every entry becomes its lookup and every count of disputes right, whatever they were; links, rules and tally stay.
+   Answers the number of places of entries that differ from before; counts are not in it. This mends a book of which
+   only entries or counts are wrong, as one is that was stored before there were counts. Refusals: 1, 5. */
 uint32_t house_refresh(uint16_t n, uint16_t m, const uint8_t *links, size_t links_len, const uint16_t *rules,
-                       size_t rules_len, uint16_t *entries, size_t entries_len, const uint32_t *tally,
-                       size_t tally_len);
+                       size_t rules_len, uint16_t *entries, size_t entries_len, const uint32_t *tally, size_t tally_len,
+                       uint16_t *disputes, size_t disputes_len);
 
 /* ---- parties */
 
@@ -145,7 +152,7 @@ uint32_t house_refresh(uint16_t n, uint16_t m, const uint8_t *links, size_t link
    256 * one + the other. Refusals: 1, 2, 3, 5, 11. */
 uint32_t house_parties(uint16_t n, uint16_t m, const uint8_t *links, size_t links_len, const uint16_t *rules,
                        size_t rules_len, const uint16_t *entries, size_t entries_len, const uint32_t *tally,
-                       size_t tally_len, uint16_t kind, uint16_t mark);
+                       size_t tally_len, const uint16_t *disputes, size_t disputes_len, uint16_t kind, uint16_t mark);
 
 /* The two kinds. A refusal has none. */
 static inline uint16_t house_one(uint32_t answer) {
@@ -158,25 +165,26 @@ static inline uint16_t house_other(uint32_t answer) {
 
 /* ---- inspect */
 
-/* Whether the book is sound, and if not, its first fault: link bytes come before kinds and kinds before entries, and of
-   each the lowest. Refusals: 1. */
+/* Whether the book is sound, and if not, its first fault: link bytes come first, then kinds, then entries, then
+   counts of disputes, and of each the lowest. Refusals: 1. */
 uint32_t house_inspect(uint16_t n, uint16_t m, const uint8_t *links, size_t links_len, const uint16_t *rules,
                        size_t rules_len, const uint16_t *entries, size_t entries_len, const uint32_t *tally,
-                       size_t tally_len);
+                       size_t tally_len, const uint16_t *disputes, size_t disputes_len);
 
 /* What house_fault makes of an answer: one of these, or HOUSE_REFUSED. */
 enum {
     HOUSE_SOUND = 0,             /* the whole answer: the book is sound */
     HOUSE_LINK_BYTE = 131072,    /* + place: a link byte is above 1; the child is place / n, the parent place % n */
     HOUSE_ABOVE_ITSELF = 196608, /* + kind: a chain of links leads from the kind up to itself */
-    HOUSE_WRONG_ENTRY = 262144   /* + place: an entry is not its lookup; the kind is place / m, the mark place % m */
+    HOUSE_WRONG_ENTRY = 262144,  /* + place: an entry is not its lookup; the kind is place / m, the mark place % m */
+    HOUSE_WRONG_COUNT = 327680   /* + mark: the count of disputes is not how many kinds have a dispute entry for it */
 };
 
 static inline uint32_t house_fault(uint32_t answer) {
     return answer - answer % 65536;
 }
 
-/* The place or the kind of a fault. */
+/* The place, the kind or the mark of a fault. */
 static inline uint16_t house_fault_at(uint32_t answer) {
     return (uint16_t)(answer % 65536);
 }

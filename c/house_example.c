@@ -15,10 +15,12 @@ struct book {
     uint8_t links[N * N];
     uint16_t rules[N * M], entries[N * M];
     uint32_t tally[HOUSE_CALLERS];
+    uint16_t disputes[M];
 };
 
-/* What every call starts with: the size, and the four tables with their numbers of elements. */
-#define LENT(b) N, M, (b)->links, N * N, (b)->rules, N * M, (b)->entries, N * M, (b)->tally, HOUSE_CALLERS
+/* What every call starts with: the size, and the five tables with their numbers of elements. */
+#define LENT(b) \
+    N, M, (b)->links, N * N, (b)->rules, N * M, (b)->entries, N * M, (b)->tally, HOUSE_CALLERS, (b)->disputes, M
 
 /* The suppliers whose edits this house enters: the callers that it tells apart. */
 enum { ORCHARD = 0, IMPORTER = 1 };
@@ -65,7 +67,7 @@ static void tell(const char *call, uint32_t answer) {
 static void ask(const struct book *b, uint16_t kind, uint16_t mark) {
     uint32_t answer = lane_find(N, M, b->links, sizeof b->links, (const uint8_t *)b->rules, sizeof b->rules,
                                 (const uint8_t *)b->entries, sizeof b->entries, (const uint8_t *)b->tally,
-                                sizeof b->tally, kind, mark);
+                                sizeof b->tally, (const uint8_t *)b->disputes, sizeof b->disputes, kind, mark);
     printf("  kind %d, mark %d: ", kind, mark);
     if (lane_is_rule(answer)) {
         printf("handle as %d, by the rule of kind %d\n", lane_handling(answer), lane_kind(answer));
@@ -76,6 +78,11 @@ static void ask(const struct book *b, uint16_t kind, uint16_t mark) {
     } else {
         printf("stop the lane, refusal %u\n", (unsigned)answer);
     }
+}
+
+/* Prints how much a person has to settle for a mark. */
+static void show_disputes(const struct book *b, uint16_t mark) {
+    printf("  kinds in dispute for mark %d: %d\n", mark, b->disputes[mark]);
 }
 
 /* Prints who is in dispute. Which of the two comes first is not promised, so the lower kind is printed first. */
@@ -106,6 +113,9 @@ static void inspect(const struct book *b) {
     case HOUSE_WRONG_ENTRY:
         printf("the entry of kind %d and mark %d is wrong\n", at / M, at % M);
         break;
+    case HOUSE_WRONG_COUNT:
+        printf("the count of disputes of mark %d is wrong\n", at);
+        break;
     default:
         printf("refused: %s\n", refusal_name(answer));
         break;
@@ -133,6 +143,7 @@ static void make_rules(struct book *book) {
     tell("add rule 2, mark 0: 20", house_add_rule(LENT(book), IMPORTER, 2, 0, 20));
     ask(book, 3, 0);
     show_parties(book, 3, 0);
+    show_disputes(book, 0);
     inspect(book);
 }
 
@@ -161,6 +172,7 @@ int main(void) {
     mend(book);
     puts("the book itself");
     tell("take link 3 under 2", house_take_link(LENT(&book), IMPORTER, 3, 2));
+    show_disputes(&book, 0);
     ask(&book, 3, 0);
     ask(&book, 3, 1);
     printf("edits accepted: %u of the orchard, %u of the importer\n", (unsigned)book.tally[ORCHARD],

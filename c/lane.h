@@ -3,16 +3,17 @@
    docs/SCOPE.md says what it does, and the library is proved to do it. "rt staticlib lane" writes
    target/staticlib/liblane.a, which links into x86-64 programs. The calls that make and edit a book are in house.h.
 
-   A book has n kinds (1 to 128, numbered from 0) and m marks (1 to 64, numbered from 0). It is four tables:
+   A book has n kinds (1 to 128, numbered from 0) and m marks (1 to 64, numbered from 0). It is five tables:
 
-     table    its length in bytes  what it holds
-     links    n * n                bytes; place child * n + parent holds 1 for a link, 0 for none
-     rules    2 * n * m            16-bit numbers; place kind * m + mark holds the kind's own handling for the mark,
-                                   1 to 65535, or 0 for no own rule
-     entries  2 * n * m            16-bit numbers, at the same places as rules: 0 for none, O + 1 for the rule of
-                                   kind O, 257 + X for a dispute at kind X
-     tally    64                   32-bit numbers; place c, 0 to 15, holds the accepted edits of caller c since opening
-                                   (house.h says who a caller is)
+     table     its length in bytes  what it holds
+     links     n * n                bytes; place child * n + parent holds 1 for a link, 0 for none
+     rules     2 * n * m            16-bit numbers; place kind * m + mark holds the kind's own handling for the mark,
+                                    1 to 65535, or 0 for no own rule
+     entries   2 * n * m            16-bit numbers, at the same places as rules: 0 for none, O + 1 for the rule of
+                                    kind O, 257 + X for a dispute at kind X
+     tally     64                   32-bit numbers; place c, 0 to 15, holds the accepted edits of caller c since opening
+                                    (house.h says who a caller is)
+     disputes  2 * m                16-bit numbers; place mark holds how many kinds have a dispute entry for the mark
 
    Numbers are spelled in bytes, the lowest byte first: the 16-bit number at place i is byte 2 * i plus 256 times byte
    2 * i + 1. A table may stand at any address. */
@@ -42,11 +43,11 @@ extern "C" {
    each length at its word: that many bytes must be there to read. A length that is not the book's is refused, so NULL
    with 0 is refused too. While it runs, nothing writes the tables; several lanes may ask at the same time.
 
-   It looks at one entry and, where that is a rule, at the rule's handling. Whether the other entries are right, or the
-   links make sense, it does not test. */
+   It looks at one entry and, where that is a rule, at the rule's handling. Whether the other entries are right, the
+   links make sense, or the disputes are counted right, it does not test. */
 uint32_t lane_find(uint16_t n, uint16_t m, const uint8_t *links, size_t links_len, const uint8_t *rules,
                    size_t rules_len, const uint8_t *entries, size_t entries_len, const uint8_t *tally, size_t tally_len,
-                   uint16_t kind, uint16_t mark);
+                   const uint8_t *disputes, size_t disputes_len, uint16_t kind, uint16_t mark);
 
 /* The answers that are one number. Where several refusals would apply, the first in this order is given. */
 enum {

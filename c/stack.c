@@ -13,10 +13,10 @@
 enum { N = 128, M = 64, LEFT = 40 * 1024, FILL = 165 };
 
 static uint8_t links[N * N];
-static uint16_t rules[N * M], entries[N * M];
+static uint16_t rules[N * M], entries[N * M], disputes[M];
 static uint32_t tally[HOUSE_CALLERS];
 
-#define BOOK N, M, links, N * N, rules, N * M, entries, N * M, tally, HOUSE_CALLERS
+#define BOOK N, M, links, N * N, rules, N * M, entries, N * M, tally, HOUSE_CALLERS, disputes, M
 #define EDIT BOOK, HOUSE_CALLERS - 1
 
 static uint32_t answer;

@@ -24,7 +24,7 @@ struct table {
 
 struct book {
     unsigned n, m;
-    struct table links, rules, entries, tally;
+    struct table links, rules, entries, tally, disputes;
 };
 
 static struct table make_table(size_t length) {
@@ -53,8 +53,15 @@ static void resize(struct table *table, size_t length) {
 /* A book of the right lengths, every number 0. */
 static struct book make_book(unsigned n, unsigned m) {
     size_t places = (size_t)n * m;
-    struct table tally = make_table(LANE_TALLY_BYTES);
-    struct book book = {n, m, make_table((size_t)n * n), make_table(2 * places), make_table(2 * places), tally};
+    struct book book = {
+        n,
+        m,
+        make_table((size_t)n * n),
+        make_table(2 * places),
+        make_table(2 * places),
+        make_table(LANE_TALLY_BYTES),
+        make_table(2 * (size_t)m),
+    };
     return book;
 }
 
@@ -63,6 +70,7 @@ static void free_book(struct book *book) {
     free(book->rules.bytes);
     free(book->entries.bytes);
     free(book->tally.bytes);
+    free(book->disputes.bytes);
 }
 
 static unsigned number_at(const struct table *table, size_t place) {
@@ -86,6 +94,7 @@ enum outcome {
     RULES_LENGTH,
     ENTRIES_LENGTH,
     TALLY_LENGTH,
+    DISPUTES_LENGTH,
     NO_SUCH_KIND,
     NO_SUCH_MARK,
     ENTRY_OUTSIDE,
@@ -103,6 +112,7 @@ static const char *const outcome_names[OUTCOMES] = {
     "1, length of rules",
     "1, length of entries",
     "1, length of tally",
+    "1, length of disputes",
     "2, no such kind",
     "3, no such mark",
     "10, entry outside",
@@ -138,7 +148,10 @@ static enum outcome size_fault(const struct book *book) {
     if (book->entries.length != n * m * 2) {
         return ENTRIES_LENGTH;
     }
-    return book->tally.length != LANE_TALLY_BYTES ? TALLY_LENGTH : NONE;
+    if (book->tally.length != LANE_TALLY_BYTES) {
+        return TALLY_LENGTH;
+    }
+    return book->disputes.length != m * 2 ? DISPUTES_LENGTH : NONE;
 }
 
 static struct answer find(const struct book *book, unsigned kind, unsigned mark) {
@@ -181,7 +194,7 @@ enum { ROOM = 1 << 17 }; /* bytes between the two pages that cannot be read: a w
 enum standing { AT_THE_END, AT_THE_START, AT_AN_ODD_ADDRESS, STANDINGS };
 
 struct lent {
-    const uint8_t *links, *rules, *entries, *tally;
+    const uint8_t *links, *rules, *entries, *tally, *disputes;
 };
 
 static uint8_t *make_room(void) {
@@ -213,12 +226,13 @@ static const uint8_t *lend_table(uint8_t **room, const struct table *table, enum
 }
 
 static struct lent lend(const struct book *book, enum standing standing) {
-    static uint8_t *rooms[4];
+    static uint8_t *rooms[5];
     struct lent lent = {
         lend_table(&rooms[0], &book->links, standing),
         lend_table(&rooms[1], &book->rules, standing),
         lend_table(&rooms[2], &book->entries, standing),
         lend_table(&rooms[3], &book->tally, standing),
+        lend_table(&rooms[4], &book->disputes, standing),
     };
     return lent;
 }
@@ -235,16 +249,16 @@ static void mistake(const char *what, const struct book *book, unsigned kind, un
                     uint32_t want) {
     mistakes++;
     if (mistakes <= 10) {
-        printf("WRONG: %s: n %u, m %u, lengths %zu %zu %zu %zu, kind %u, mark %u: %lu, and not %lu\n", what, book->n,
-               book->m, book->links.length, book->rules.length, book->entries.length, book->tally.length, kind, mark,
-               (unsigned long)got, (unsigned long)want);
+        printf("WRONG: %s: n %u, m %u, lengths %zu %zu %zu %zu %zu, kind %u, mark %u: %lu, and not %lu\n", what,
+               book->n, book->m, book->links.length, book->rules.length, book->entries.length, book->tally.length,
+               book->disputes.length, kind, mark, (unsigned long)got, (unsigned long)want);
     }
 }
 
 static uint32_t ask_library(const struct book *book, const struct lent *lent, unsigned kind, unsigned mark) {
     return lane_find((uint16_t)book->n, (uint16_t)book->m, lent->links, book->links.length, lent->rules,
                      book->rules.length, lent->entries, book->entries.length, lent->tally, book->tally.length,
-                     (uint16_t)kind, (uint16_t)mark);
+                     lent->disputes, book->disputes.length, (uint16_t)kind, (uint16_t)mark);
 }
 
 /* Whether lane.h takes a number apart as it was put together. */
@@ -340,6 +354,25 @@ static void edges_of_handling(void) {
     free_book(&book);
 }
 
+/* What the counts of disputes hold plays no part: too few, too many or more than there are kinds, at the mark asked for
+   and at the other one. */
+static void edges_of_counts(void) {
+    static const unsigned counts[] = {0, 1, 2, 3, 255, 256, 257, 32768, 65535};
+    for (size_t i = 0; i < sizeof counts / sizeof *counts * 2; i++) {
+        struct book book = make_book(4, 2);
+        put_number(&book.disputes, i % 2, counts[i / 2]);
+        expect("a count, and no dispute", &book, 3, 1, 0);
+        put_number(&book.entries, 3 * 2 + 1, 257 + 3);
+        expect("a count, and a dispute", &book, 3, 1, 65536 * 260);
+        put_number(&book.rules, 3 * 2 + 1, 9);
+        put_number(&book.entries, 3 * 2 + 1, 3 + 1);
+        expect("a count, and a rule", &book, 3, 1, 65536 * 4 + 9);
+        put_number(&book.entries, 3 * 2 + 1, 5);
+        expect("a count, and a damaged entry", &book, 3, 1, 10);
+        free_book(&book);
+    }
+}
+
 /* A book of the right lengths for n and m, which may be outside their ranges. */
 static void expect_size(unsigned n, unsigned m, uint32_t want) {
     struct book book = make_book(n, m);
@@ -385,7 +418,7 @@ static void edges_of_size(void) {
 /* One table of a book of 4 kinds and 2 marks gets another length. */
 static void expect_length(unsigned which, size_t length, uint32_t want) {
     struct book book = make_book(4, 2);
-    struct table *const tables[] = {&book.links, &book.rules, &book.entries, &book.tally};
+    struct table *const tables[] = {&book.links, &book.rules, &book.entries, &book.tally, &book.disputes};
     resize(tables[which], length);
     expect("a length", &book, 3, 1, want);
     expect("a length, and no such kind or mark", &book, 4, 2, want == 0 ? 2 : 1);
@@ -393,8 +426,8 @@ static void expect_length(unsigned which, size_t length, uint32_t want) {
 }
 
 static void edges_of_lengths(void) {
-    static const size_t right[] = {16, 16, 16, LANE_TALLY_BYTES};
-    for (unsigned which = 0; which < 4; which++) {
+    static const size_t right[] = {16, 16, 16, LANE_TALLY_BYTES, 4};
+    for (unsigned which = 0; which < 5; which++) {
         expect_length(which, right[which], 0);
         expect_length(which, right[which] - 4, 1);
         expect_length(which, right[which] - 2, 1);
@@ -410,6 +443,8 @@ static void edges_of_lengths(void) {
     }
     expect_length(3, 4, 1);                    /* one number, as every tally once was */
     expect_length(3, LANE_TALLY_BYTES / 4, 1); /* as many bytes as it has numbers */
+    expect_length(4, 16, 1);                   /* a number for each kind and mark */
+    expect_length(4, 2 * 64, 1);               /* one for each mark that any book has */
     struct book book = make_book(0, 0);
     resize(&book.tally, 0);
     expect("no tables, n and m 0", &book, 0, 0, 1);
@@ -417,9 +452,21 @@ static void edges_of_lengths(void) {
     book.m = 2;
     expect("no tables", &book, 0, 0, 1);
     free_book(&book);
-    if (lane_find(4, 2, NULL, 0, NULL, 0, NULL, 0, NULL, 0, 0, 0) != 1) {
+    if (lane_find(4, 2, NULL, 0, NULL, 0, NULL, 0, NULL, 0, NULL, 0, 0, 0) != 1) {
         mistakes++;
         puts("WRONG: NULL with length 0");
+    }
+}
+
+/* The length of the disputes for every number of marks: it goes by them and not by the kinds. */
+static void lengths_of_disputes(void) {
+    for (unsigned m = 1; m <= 64; m++) {
+        struct book book = make_book(65 - m, m);
+        for (size_t length = 0; length <= 2 * 64 + 2; length++) {
+            resize(&book.disputes, length);
+            expect("a length of disputes", &book, 0, m - 1, length == 2 * m ? 0 : 1);
+        }
+        free_book(&book);
     }
 }
 
@@ -517,7 +564,9 @@ static struct book sound_book(void) {
         for (unsigned mark = 0; mark < book.m; mark++) {
             size_t place = order[i] * book.m + mark;
             put_number(&book.rules, place, chance(ruled) == 0 ? 1 + chance(65535) : 0);
-            put_number(&book.entries, place, looked_up(&book, order[i], mark));
+            unsigned entry = looked_up(&book, order[i], mark);
+            put_number(&book.entries, place, entry);
+            put_number(&book.disputes, mark, number_at(&book.disputes, mark) + (entry >= 257));
         }
     }
     for (size_t i = 0; i < book.tally.length; i++) {
@@ -549,6 +598,14 @@ static void damage_entries(struct book *book) {
         if (chance(4) == 0) {
             put_number(&book->rules, place, chance(3) == 0 ? chance(65536) : 0);
         }
+    }
+}
+
+/* All of them 0, or full, or anything. */
+static void damage_counts(struct book *book) {
+    unsigned way = chance(4);
+    for (size_t i = 0; i < book->disputes.length; i++) {
+        book->disputes.bytes[i] = (uint8_t)(way == 0 ? 0 : way == 1 ? 255 : chance(256));
     }
 }
 
@@ -587,21 +644,22 @@ static void damage_size(struct book *book) {
         resize(&book->links, links);
         resize(&book->rules, 2 * places);
         resize(&book->entries, 2 * places);
+        resize(&book->disputes, 2 * (size_t)m);
     }
 }
 
 static void damage_shape(struct book *book) {
-    struct table *const tables[] = {&book->links, &book->rules, &book->entries, &book->tally};
+    struct table *const tables[] = {&book->links, &book->rules, &book->entries, &book->tally, &book->disputes};
     switch (chance(4)) {
     case 0:
         damage_size(book);
         break;
     case 1:
-        damage_length(tables[chance(4)]);
-        damage_length(tables[chance(4)]);
+        damage_length(tables[chance(5)]);
+        damage_length(tables[chance(5)]);
         break;
     default:
-        damage_length(tables[chance(4)]);
+        damage_length(tables[chance(5)]);
         break;
     }
 }
@@ -631,7 +689,7 @@ static void ask(const struct book *book, unsigned questions, bool sound) {
         }
     }
     if (!same(&book->links, lent.links) || !same(&book->rules, lent.rules) || !same(&book->entries, lent.entries) ||
-        !same(&book->tally, lent.tally)) {
+        !same(&book->tally, lent.tally) || !same(&book->disputes, lent.disputes)) {
         mistake("a table was written", book, 0, 0, 0, 0);
     }
 }
@@ -640,6 +698,8 @@ static void random_books(unsigned books) {
     for (unsigned i = 0; i < books; i++) {
         struct book book = sound_book();
         ask(&book, 1000, true);
+        damage_counts(&book);
+        ask(&book, 100, true); /* a find does not read them, so the book is as good as sound */
         damage_entries(&book);
         ask(&book, 1000, false);
         damage_shape(&book);
@@ -652,8 +712,10 @@ int main(void) {
     enum { BOOKS = 4000, LEAST = 500 };
     edges_of_entries();
     edges_of_handling();
+    edges_of_counts();
     edges_of_size();
     edges_of_lengths();
+    lengths_of_disputes();
     edges_of_questions();
     printf("edges done, %lu mistakes\n", mistakes);
     random_books(BOOKS);

@@ -1,6 +1,6 @@
 /* Times the four edits of the static library against the twin in C and against the base, the library of another commit, in one run: on books of three
-   sizes where parents differ at few, some and many places. All do the same edits on books of their own, batch by batch in turns; the answers and tables
-   of the library and the twin are compared as they go, and the links, rules and tally of the base. */
+   sizes where parents differ at few, some and many places. All do the same edits on books of their own, batch by batch in turns; their answers and
+   tables are compared as they go. */
 #define _POSIX_C_SOURCE 199309L /* for clock_gettime */
 #include "base.h"
 #include "house.h"
@@ -32,12 +32,13 @@ static void *zeros(size_t count, size_t size) {
     return p;
 }
 
-static struct book new_book(uint16_t n, uint16_t m, size_t tally_len) {
-    struct book b = {n, m, 0, 0, 0, 0, (size_t)n * n, (size_t)n * m, (size_t)n * m, tally_len};
+static struct book new_book(uint16_t n, uint16_t m, size_t disputes_len) {
+    struct book b = {n, m, 0, 0, 0, 0, 0, (size_t)n * n, (size_t)n * m, (size_t)n * m, CALLERS, disputes_len};
     b.links = zeros(b.links_len, 1);
     b.rules = zeros(b.rules_len, 2);
     b.entries = zeros(b.entries_len, 2);
     b.tally = zeros(b.tally_len, 4);
+    b.disputes = zeros(m, 2);
     return b;
 }
 
@@ -46,58 +47,47 @@ static void free_book(const struct book *b) {
     free(b->rules);
     free(b->entries);
     free(b->tally);
+    free(b->disputes);
 }
 
-static void clear_tally(const struct book *b) { memset(b->tally, 0, 4 * b->tally_len); }
-
-/* Copies a book that no edit was made on yet: both tallies are 0 then, also where their lengths differ. */
-static void copy(const struct book *to, const struct book *from) {
+/* Counts of disputes are copied and compared if the second book has them, which that of the base may not. */
+static void copy(const struct book *from, const struct book *to) {
     memcpy(to->links, from->links, from->links_len);
     memcpy(to->rules, from->rules, 2 * from->rules_len);
     memcpy(to->entries, from->entries, 2 * from->entries_len);
-    clear_tally(to);
+    memcpy(to->tally, from->tally, 4 * from->tally_len);
+    memcpy(to->disputes, from->disputes, 2 * to->disputes_len);
+}
+
+static int same(const struct book *a, const struct book *b) {
+    return !memcmp(a->links, b->links, a->links_len) && !memcmp(a->rules, b->rules, 2 * a->rules_len) &&
+           !memcmp(a->entries, b->entries, 2 * a->entries_len) && !memcmp(a->tally, b->tally, 4 * a->tally_len) &&
+           !memcmp(a->disputes, b->disputes, 2 * b->disputes_len);
 }
 
 static void clear(const struct book *b) {
     memset(b->links, 0, b->links_len);
     memset(b->rules, 0, 2 * b->rules_len);
     memset(b->entries, 0, 2 * b->entries_len);
-    clear_tally(b);
+    memset(b->tally, 0, 4 * b->tally_len);
+    memset(b->disputes, 0, 2 * b->disputes_len);
 }
-
-/* The accepted edits of all callers. */
-static uint64_t accepted(const struct book *b) {
-    uint64_t sum = 0;
-    for (size_t i = 0; i < b->tally_len; i++) sum += b->tally[i];
-    return sum;
-}
-
-/* As many edits were accepted, of each caller where both tell callers apart. */
-static int tallied_alike(const struct book *a, const struct book *b) {
-    return a->tally_len == b->tally_len ? !memcmp(a->tally, b->tally, 4 * a->tally_len) : accepted(a) == accepted(b);
-}
-
-/* The same edits were accepted. */
-static int edited_alike(const struct book *a, const struct book *b) {
-    return !memcmp(a->links, b->links, a->links_len) && !memcmp(a->rules, b->rules, 2 * a->rules_len) && tallied_alike(a, b);
-}
-
-static int same(const struct book *a, const struct book *b) { return edited_alike(a, b) && !memcmp(a->entries, b->entries, 2 * a->entries_len); }
 
 /* One edit of a caller: a rule at (x, y) or a link from x to y, added with a value or taken. */
 struct edit {
     uint16_t caller, x, y, value;
 };
 
-#define TABLES(b) (b)->n, (b)->m, (b)->links, (b)->links_len, (b)->rules, (b)->rules_len, (b)->entries, (b)->entries_len, (b)->tally, (b)->tally_len
+#define FOUR(b) (b)->n, (b)->m, (b)->links, (b)->links_len, (b)->rules, (b)->rules_len, (b)->entries, (b)->entries_len, (b)->tally, (b)->tally_len
+#define TABLES(b) FOUR(b), (b)->disputes, (b)->disputes_len
 
-/* What an edit of the base starts with, and how long its tally is: one number and no caller, if it is from before there were callers. */
-#ifdef BASE_CALLERS
-#define BASE_START(b, e) TABLES(b), (e).caller
-enum { BASE_TALLY = BASE_CALLERS };
+/* What the base is lent, and whether it counts disputes: it does not if it is from before that. */
+#ifdef BASE_DISPUTES
+#define BASE_TABLES(b) TABLES(b)
+enum { BASE_COUNTS = 1 };
 #else
-#define BASE_START(b, e) TABLES(b)
-enum { BASE_TALLY = 1 };
+#define BASE_TABLES(b) FOUR(b)
+enum { BASE_COUNTS = 0 };
 #endif
 
 typedef uint32_t call(const struct book *b, struct edit e);
@@ -109,10 +99,10 @@ static uint32_t twin_1(const struct book *b, struct edit e) { return twin_add_ru
 static uint32_t twin_2(const struct book *b, struct edit e) { return twin_take_rule(b, e.caller, e.x, e.y); }
 static uint32_t twin_3(const struct book *b, struct edit e) { return twin_add_link(b, e.caller, e.x, e.y); }
 static uint32_t twin_4(const struct book *b, struct edit e) { return twin_take_link(b, e.caller, e.x, e.y); }
-static uint32_t base_1(const struct book *b, struct edit e) { return base_add_rule(BASE_START(b, e), e.x, e.y, e.value); }
-static uint32_t base_2(const struct book *b, struct edit e) { return base_take_rule(BASE_START(b, e), e.x, e.y); }
-static uint32_t base_3(const struct book *b, struct edit e) { return base_add_link(BASE_START(b, e), e.x, e.y); }
-static uint32_t base_4(const struct book *b, struct edit e) { return base_take_link(BASE_START(b, e), e.x, e.y); }
+static uint32_t base_1(const struct book *b, struct edit e) { return base_add_rule(BASE_TABLES(b), e.caller, e.x, e.y, e.value); }
+static uint32_t base_2(const struct book *b, struct edit e) { return base_take_rule(BASE_TABLES(b), e.caller, e.x, e.y); }
+static uint32_t base_3(const struct book *b, struct edit e) { return base_add_link(BASE_TABLES(b), e.caller, e.x, e.y); }
+static uint32_t base_4(const struct book *b, struct edit e) { return base_take_link(BASE_TABLES(b), e.caller, e.x, e.y); }
 static call *const calls[SIDES][4] = {{house_1, house_2, house_3, house_4}, {twin_1, twin_2, twin_3, twin_4}, {base_1, base_2, base_3, base_4}};
 static const char *const name[4] = {"add rule", "take rule", "add link", "take link"};
 
@@ -164,12 +154,12 @@ static double share(const struct book *b) {
     return 100.0 * (double)differ / (double)b->entries_len;
 }
 
-/* A new book for all three, the entries of the base by its own lookup. The share of its places where parents differ. */
+/* A new book for all three. The share of its places where parents differ. */
 static double renew(const struct book *books, const struct shape *s) {
     fill(&books[LIBRARY], s);
-    copy(&books[BASE], &books[LIBRARY]);
-    if (house_refresh(TABLES(&books[LIBRARY])) >= HOUSE_REFUSED || base_refresh(TABLES(&books[BASE])) >= BASE_REFUSED) abort();
-    copy(&books[TWIN], &books[LIBRARY]);
+    if (house_refresh(TABLES(&books[LIBRARY])) >= HOUSE_REFUSED) abort();
+    copy(&books[LIBRARY], &books[TWIN]);
+    copy(&books[LIBRARY], &books[BASE]);
     return share(&books[LIBRARY]);
 }
 
@@ -188,7 +178,7 @@ static int run(const struct shape *s) {
     static double times[SIDES][4][REPEATS];
     double differ = 0;
     uint64_t sum[SIDES] = {0};
-    for (int side = 0; side < SIDES; side++) books[side] = new_book(s->n, s->m, side == BASE ? BASE_TALLY : CALLERS);
+    for (int side = 0; side < SIDES; side++) books[side] = new_book(s->n, s->m, side != BASE || BASE_COUNTS ? s->m : 0);
     memset(times, 0, sizeof times);
     for (int r = 0; r < REPEATS; r++)
         for (int round = 0; round < ROUNDS; round++) {
@@ -199,8 +189,9 @@ static int run(const struct shape *s) {
                     int side = (round + i) % SIDES; /* who comes first on a new book takes longer: caches do not hold it yet */
                     times[side][k][r] += batch(calls[side][k], &books[side], k < 2 ? rules : links, &sum[side]) / ROUNDS;
                 }
-                if (sum[LIBRARY] != sum[TWIN] || !same(&books[LIBRARY], &books[TWIN]) || !edited_alike(&books[LIBRARY], &books[BASE]))
-                    return printf("%u x %u: %s differs\n", s->n, s->m, name[k]), 1;
+                for (int side = TWIN; side < SIDES; side++)
+                    if (sum[side] != sum[LIBRARY] || !same(&books[LIBRARY], &books[side]))
+                        return printf("%u x %u: %s differs\n", s->n, s->m, name[k]), 1;
             }
         }
     for (int k = 0; k < 4; k++) {

@@ -40,7 +40,7 @@ static inline void drop_first(struct set *s) {
 static int shaped(const struct book *b) {
     size_t places = (size_t)b->n * b->m;
     return b->n >= 1 && b->n <= MOST && b->m >= 1 && b->m <= MARKS && b->links_len == (size_t)b->n * b->n && b->rules_len == places &&
-           b->entries_len == places && b->tally_len == CALLERS;
+           b->entries_len == places && b->tally_len == CALLERS && b->disputes_len == b->m;
 }
 
 /* Eight bytes, each 0 or 1, as eight bits: byte i comes to bit 56 + i of the product. */
@@ -171,24 +171,35 @@ static void work_out(const struct book *b, const struct view *v, size_t c, uint1
     for (uint64_t marks = bits_of(differ, MARKS, &held); marks; marks &= marks - 1) out[lowest(marks)] = decide(v, c, lowest(marks));
 }
 
+/* 1 for a dispute, else 0. */
+static inline uint16_t dispute(uint16_t entry) { return entry >= 257; }
+
 /* Each kind is worked out from its parents' entries as they stand. If all come out as they stand, they are right from the topmost kinds down; if not,
-   some entry is wrong. So it does not matter what comes out below a wrong one. */
+   some entry is wrong. So it does not matter what comes out below a wrong one. The disputes are counted on the way, down from what the book has. */
 static int sound(const struct book *b, struct view *v) {
     size_t n = b->n, m = b->m;
-    uint16_t out[MARKS], wrong = 0;
+    uint16_t out[MARKS], uncounted[MARKS], wrong = 0;
     if (!read_links(b, v) || !arrange(v, n)) return 0;
     read_rules(b, v);
+    memcpy(uncounted, b->disputes, m * sizeof *uncounted);
     for (size_t c = 0; c < n; c++) {
         const uint16_t *entries = b->entries + c * m;
         work_out(b, v, c, out);
-        for (size_t j = 0; j < m; j++) wrong |= (uint16_t)(out[j] ^ entries[j]);
+        for (size_t j = 0; j < m; j++) {
+            wrong |= (uint16_t)(out[j] ^ entries[j]);
+            uncounted[j] = (uint16_t)(uncounted[j] - dispute(out[j]));
+        }
     }
+    for (size_t j = 0; j < m; j++) wrong |= uncounted[j];
     return wrong == 0;
 }
 
 static void add_to_tally(const struct book *b, size_t caller) {
     if (b->tally[caller] < UINT32_MAX) b->tally[caller]++;
 }
+
+/* A count of disputes after one of its entries has changed. */
+static inline uint16_t recounted(uint16_t count, uint16_t was, uint16_t is) { return (uint16_t)(count + dispute(is) - dispute(was)); }
 
 /* One entry worked out and written, as a row is. Whether it was another. */
 static uint32_t settle(const struct book *b, const struct view *v, size_t c, size_t mark) {
@@ -202,17 +213,19 @@ static uint32_t settle(const struct book *b, const struct view *v, size_t c, siz
     if (b->rules[c * m + mark] != 0) high = (uint16_t)(c + 1);
     else if (less(high) != low) high = decide(v, c, mark);
     b->entries[c * m + mark] = high;
+    b->disputes[mark] = recounted(b->disputes[mark], was, high);
     return was != high;
 }
 
 /* The entries of kind c worked out and written. How many were others. */
 static uint32_t settle_row(const struct book *b, const struct view *v, size_t c) {
     size_t m = b->m;
-    uint16_t out[MARKS], *entries = b->entries + c * m;
+    uint16_t out[MARKS], *restrict entries = b->entries + c * m, *restrict disputes = b->disputes;
     uint32_t count = 0;
     work_out(b, v, c, out);
     for (size_t j = 0; j < m; j++) {
         count += entries[j] != out[j];
+        disputes[j] = recounted(disputes[j], entries[j], out[j]);
         entries[j] = out[j];
     }
     return count;

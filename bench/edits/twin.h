@@ -7,13 +7,14 @@
 /* The most callers: the tally has a number for each. */
 enum { CALLERS = 16 };
 
-/* A book: n kinds, m marks and its four tables. */
+/* A book: n kinds, m marks and its five tables. */
 struct book {
     uint16_t n, m;
     uint8_t *links;
     uint16_t *rules, *entries;
     uint32_t *tally;
-    size_t links_len, rules_len, entries_len, tally_len;
+    uint16_t *disputes;
+    size_t links_len, rules_len, entries_len, tally_len, disputes_len;
 };
 
 /* The count of entries that differ, or 65536 + the refusal's number. */

@@ -8,13 +8,14 @@ static uint32_t number_at(const uint8_t *table, size_t place) {
 }
 
 uint32_t FIND(uint16_t n, uint16_t m, const uint8_t *links, size_t links_len, const uint8_t *rules, size_t rules_len,
-              const uint8_t *entries, size_t entries_len, const uint8_t *tally, size_t tally_len, uint16_t kind,
-              uint16_t mark) {
+              const uint8_t *entries, size_t entries_len, const uint8_t *tally, size_t tally_len,
+              const uint8_t *disputes, size_t disputes_len, uint16_t kind, uint16_t mark) {
     (void)links;
     (void)tally;
+    (void)disputes;
     size_t places = (size_t)n * m;
     if (n < 1 || n > 128 || m < 1 || m > 64 || links_len != (size_t)n * n || rules_len != 2 * places ||
-        entries_len != 2 * places || tally_len != LANE_TALLY_BYTES) {
+        entries_len != 2 * places || tally_len != LANE_TALLY_BYTES || disputes_len != 2 * (size_t)m) {
         return LANE_REFUSED_BOOK;
     }
     if (kind >= n) {

@@ -21,7 +21,7 @@ enum {
 
 typedef uint32_t find(uint16_t n, uint16_t m, const uint8_t *links, size_t links_len, const uint8_t *rules,
                       size_t rules_len, const uint8_t *entries, size_t entries_len, const uint8_t *tally,
-                      size_t tally_len, uint16_t kind, uint16_t mark);
+                      size_t tally_len, const uint8_t *disputes, size_t disputes_len, uint16_t kind, uint16_t mark);
 
 find find_by_gcc;
 #ifdef CLANG
@@ -40,6 +40,7 @@ static const char *const names[] = {"lane", "gcc", "clang"};
 enum { FINDS = sizeof finds / sizeof *finds };
 
 static uint8_t links[KINDS * KINDS], rules[2 * PLACES], entries[2 * PLACES], tally[LANE_TALLY_BYTES];
+static uint8_t disputes[2 * MARKS]; /* never read, so it may hold anything */
 static uint16_t kinds[QUESTIONS], marks[QUESTIONS];
 
 static uint32_t chance(uint32_t below) {
@@ -76,7 +77,7 @@ static double round_of(find *function, uint64_t *sum) {
     for (size_t i = 0; i < CALLS; i++) {
         size_t at = i % QUESTIONS;
         *sum += function(KINDS, MARKS, links, sizeof links, rules, sizeof rules, entries, sizeof entries, tally,
-                         sizeof tally, kinds[at], marks[at]);
+                         sizeof tally, disputes, sizeof disputes, kinds[at], marks[at]);
     }
     clock_gettime(CLOCK_PROCESS_CPUTIME_ID, &after);
     return ((double)(after.tv_sec - before.tv_sec) * 1e9 + (double)(after.tv_nsec - before.tv_nsec)) / CALLS;

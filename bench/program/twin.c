@@ -6,9 +6,9 @@
 enum { KINDS = 128, MARKS = 64, LONGEST = 64, ANSWER = 32, BLOCK = 65536, REFUSED = 65536 };
 
 static uint8_t links[KINDS * KINDS];
-static uint16_t rules[KINDS * MARKS], entries[KINDS * MARKS];
+static uint16_t rules[KINDS * MARKS], entries[KINDS * MARKS], disputes[MARKS];
 static uint32_t tally[CALLERS];
-static struct book book = {0, 0, links, rules, entries, tally, 0, 0, 0, CALLERS};
+static struct book book = {0, 0, links, rules, entries, tally, disputes, 0, 0, 0, CALLERS, 0};
 
 /* Whoever writes the text is one caller. */
 enum { CALLER = 0 };
@@ -79,10 +79,12 @@ static void open_book(uint16_t n, uint16_t m) {
     book.m = m;
     book.links_len = (size_t)n * n;
     book.rules_len = book.entries_len = (size_t)n * m;
+    book.disputes_len = m;
     memset(links, 0, book.links_len);
     memset(rules, 0, book.rules_len * sizeof *rules);
     memset(entries, 0, book.entries_len * sizeof *entries);
     memset(tally, 0, sizeof tally);
+    memset(disputes, 0, sizeof disputes);
     SAY_TWO("(opened ", n, m);
 }
 

@@ -84,7 +84,7 @@ admitted n m t c i e =
     let p = asked-at n m c i at in (
       fits,
       record {
-        sizes = shape-sized n m t (sized-facts 1 1 n m _ _ _ _ fits);
+        sizes = shape-sized n m t (sized-facts 1 1 n m _ _ _ _ _ fits);
         kind-below = rw (p .the-kind) (p .kind-below);
         mark-below = rw (p .the-mark) (p .mark-below);
       },

@@ -31,7 +31,7 @@ pub enum CallerAsked {
     Refused(Refusal),
 }
 
-// Whether n and m are in their ranges and the four tables have exactly their lengths, which are given. A number of 16 bits
+// Whether n and m are in their ranges and the five tables have exactly their lengths, which are given. A number of 16 bits
 // takes short elements of its table, and one of 32 bits long. The && is for speed: with & in its place the find of the line
 // controllers takes a tenth longer.
 fn sized(
@@ -43,8 +43,9 @@ fn sized(
     rules: usize,
     entries: usize,
     tally: usize,
+    disputes: usize,
 ) -> bool
-    ensures { λ r. ⌜ r ≡ sized short long n m links rules entries tally ⌝ }
+    ensures { λ r. ⌜ r ≡ sized short long n m links rules entries tally disputes ⌝ }
 {
     let places = short as usize * (n as usize * m as usize);
     (1 <= n)
@@ -53,12 +54,22 @@ fn sized(
         & (m <= Mark::MOST)
         & (links == n as usize * n as usize)
         & (rules == places)
-        && (entries == places) & (tally == long as usize * TALLIES)
+        && (entries == places)
+            & (tally == long as usize * TALLIES)
+            & (disputes == short as usize * m as usize)
 }
 
 // Whether tables of numbers have the lengths of a book of n kinds and m marks.
-pub fn shape(n: u16, m: u16, links: &[u8], rules: &[u16], entries: &[u16], tally: &[u32]) -> bool
-    ensures { λ r. ⌜ r ≡ shaped n m (lent (now (links .entry)) (now (rules .entry)) (now (entries .entry)) (now (tally .entry))) ⌝ }
+pub fn shape(
+    n: u16,
+    m: u16,
+    links: &[u8],
+    rules: &[u16],
+    entries: &[u16],
+    tally: &[u32],
+    disputes: &[u16],
+) -> bool
+    ensures { λ r. ⌜ r ≡ shaped n m (lent (now (links .entry)) (now (rules .entry)) (now (entries .entry)) (now (tally .entry)) (now (disputes .entry))) ⌝ }
 {
     sized(
         1,
@@ -69,12 +80,21 @@ pub fn shape(n: u16, m: u16, links: &[u8], rules: &[u16], entries: &[u16], tally
         rules.len(),
         entries.len(),
         tally.len(),
+        disputes.len(),
     )
 }
 
 // The same of tables of bytes.
-pub fn shape_bytes(n: u16, m: u16, links: &[u8], rules: &[u8], entries: &[u8], tally: &[u8]) -> bool
-    ensures { λ r. ⌜ r ≡ shaped-bytes n m (lent (now (links .entry)) (now (rules .entry)) (now (entries .entry)) (now (tally .entry))) ⌝ }
+pub fn shape_bytes(
+    n: u16,
+    m: u16,
+    links: &[u8],
+    rules: &[u8],
+    entries: &[u8],
+    tally: &[u8],
+    disputes: &[u8],
+) -> bool
+    ensures { λ r. ⌜ r ≡ shaped-bytes n m (lent (now (links .entry)) (now (rules .entry)) (now (entries .entry)) (now (tally .entry)) (now (disputes .entry))) ⌝ }
 {
     sized(
         2,
@@ -85,6 +105,7 @@ pub fn shape_bytes(n: u16, m: u16, links: &[u8], rules: &[u8], entries: &[u8], t
         rules.len(),
         entries.len(),
         tally.len(),
+        disputes.len(),
     )
 }
 
@@ -120,12 +141,14 @@ pub fn ask_place(
     rules: &[u16],
     entries: &[u16],
     tally: &[u32],
+    disputes: &[u16],
     kind: Kind,
     mark: Mark,
 ) -> Asked
-    ensures { λ r. ⌜ r ≡ checked n m (lent (now (links .entry)) (now (rules .entry)) (now (entries .entry)) (now (tally .entry))) (kind .0) (mark .0) ⌝ }
+    ensures { λ r. ⌜ r ≡ checked n m (lent (now (links .entry)) (now (rules .entry)) (now (entries .entry)) (now (tally .entry)) (now (disputes .entry))) (kind .0) (mark .0) ⌝ }
 {
-    ask(shape(n, m, links, rules, entries, tally), n, m, kind, mark)
+    let shaped = shape(n, m, links, rules, entries, tally, disputes);
+    ask(shaped, n, m, kind, mark)
 }
 
 // Refusal 2 of an edit of a link, of the child and of the parent.
@@ -149,11 +172,12 @@ pub fn ask_caller(
     rules: &[u16],
     entries: &[u16],
     tally: &[u32],
+    disputes: &[u16],
     caller: Caller,
 ) -> CallerAsked
-    ensures { λ r. ⌜ r ≡ checkedCaller n m (lent (now (links .entry)) (now (rules .entry)) (now (entries .entry)) (now (tally .entry))) (caller .0) ⌝ }
+    ensures { λ r. ⌜ r ≡ checkedCaller n m (lent (now (links .entry)) (now (rules .entry)) (now (entries .entry)) (now (tally .entry)) (now (disputes .entry))) (caller .0) ⌝ }
 {
-    let shaped = shape(n, m, links, rules, entries, tally);
+    let shaped = shape(n, m, links, rules, entries, tally, disputes);
     if !shaped {
         return CallerAsked::Refused(Refusal::Shape);
     }

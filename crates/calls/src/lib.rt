@@ -22,25 +22,34 @@ pub fn carry_out(
     rules: &mut [u16],
     entries: &mut [u16],
     tally: &mut [u32],
+    disputes: &mut [u16],
 ) -> Answer
-    ensures { λ r. ⌜ Carried (callOf call) (lent (now (links .entry)) (now (rules .entry)) (now (entries .entry)) (now (tally .entry)))
-        (answered r) (lent (now (links .exit)) (now (rules .exit)) (now (entries .exit)) (now (tally .exit))) ⌝ }
+    ensures { λ r. ⌜ Carried (callOf call) (lent (now (links .entry)) (now (rules .entry)) (now (entries .entry)) (now (tally .entry)) (now (disputes .entry)))
+        (answered r) (lent (now (links .exit)) (now (rules .exit)) (now (entries .exit)) (now (tally .exit)) (now (disputes .exit))) ⌝ }
 {
     let n = call.n;
     let m = call.m;
     let request = call.request;
     match request {
-        Request::Open => Answer::Opened(open(n, m, links, rules, entries, tally)),
+        Request::Open => Answer::Opened(open(n, m, links, rules, entries, tally, disputes)),
         Request::Edit(caller, edit) => {
-            Answer::Edited(make(caller, edit, n, m, links, rules, entries, tally))
+            Answer::Edited(make(caller, edit, n, m, links, rules, entries, tally, disputes))
         }
         Request::Find(kind, mark) => {
-            Answer::Found(find(n, m, links, rules, entries, tally, kind, mark))
+            Answer::Found(find(n, m, links, rules, entries, tally, disputes, kind, mark))
         }
         Request::Parties(kind, mark) => {
-            Answer::Paired(parties(n, m, links, rules, entries, tally, kind, mark))
+            Answer::Paired(parties(n, m, links, rules, entries, tally, disputes, kind, mark))
         }
-        Request::Inspect => Answer::Inspected(inspect(n, m, links, rules, entries, tally)),
-        Request::Refresh => Answer::Edited(refresh(n, m, links, rules, entries, tally)),
+        Request::Inspect => Answer::Inspected(inspect(
+            n,
+            m,
+            links,
+            rules,
+            entries,
+            tally,
+            disputes,
+        )),
+        Request::Refresh => Answer::Edited(refresh(n, m, links, rules, entries, tally, disputes)),
     }
 }

@@ -21,9 +21,10 @@ fn show(
     rules: &mut [u16; 8192],
     entries: &mut [u16; 8192],
     tally: &mut [u32; TALLIES],
+    disputes: &mut [u16; 64],
     text: &mut [u8; 64],
 ) -> Turned {
-    let turned = session::line(line, n, m, links, rules, entries, tally, text);
+    let turned = session::line(line, n, m, links, rules, entries, tally, disputes, text);
     let whole: &[u8] = text;
     let length = turned.length;
     io::write_all(STDOUT_FILENO, line);
@@ -42,6 +43,7 @@ fn step(
     rules: &mut [u16; 8192],
     entries: &mut [u16; 8192],
     tally: &mut [u32; TALLIES],
+    disputes: &mut [u16; 64],
     text: &mut [u8; 64],
 ) -> State
     requires { ⌜ (state .from ≤ at) × (at < length (now lines)) ⌝ }
@@ -59,6 +61,7 @@ fn step(
         rules,
         entries,
         tally,
+        disputes,
         text,
     );
     State {
@@ -75,6 +78,7 @@ fn run(
     rules: &mut [u16; 8192],
     entries: &mut [u16; 8192],
     tally: &mut [u32; TALLIES],
+    disputes: &mut [u16; 64],
     text: &mut [u8; 64],
 ) {
     let mut state = State {
@@ -84,7 +88,17 @@ fn run(
     };
     let mut at = 0;
     while at < lines.len() {
-        state = step(lines, at, state, links, rules, entries, tally, text);
+        state = step(
+            lines,
+            at,
+            state,
+            links,
+            rules,
+            entries,
+            tally,
+            disputes,
+            text,
+        );
         at += 1;
     }
 }
@@ -94,6 +108,7 @@ fn main() {
     let mut rules = [0u16; 8192];
     let mut entries = [0u16; 8192];
     let mut tally = [0u32; TALLIES];
+    let mut disputes = [0u16; 64];
     let mut text = [0u8; 64];
     let lines = b"(open 4 2)\n\
 (add (under 1 0))\n\
@@ -122,6 +137,7 @@ fn main() {
         &mut rules,
         &mut entries,
         &mut tally,
+        &mut disputes,
         &mut text,
     );
 }

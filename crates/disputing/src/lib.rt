@@ -15,9 +15,18 @@ ghost use Rattle.tables.specs.Tables.{lent};
 ghost use Rattle.disputing.specs.Parties.{Disputing};
 
 // The answer at a kind and a mark of the book.
-fn answer(n: u16, m: u16, links: &[u8], rules: &[u16], entries: &[u16], k: Kind, j: Mark) -> Pair
-    requires { ⌜ (Within n m (now rules) (now entries) k j) × (length (now links) ≡ n * n) ⌝ }
-    ensures { λ r. ⌜ ((tally : List ℕ) → Disputing n m (lent (now (links .entry)) (now (rules .entry)) (now (entries .entry)) tally) (k .0) (j .0) (paired r)) ⌝ }
+fn answer(
+    n: u16,
+    m: u16,
+    links: &[u8],
+    rules: &[u16],
+    entries: &[u16],
+    disputes: &[u16],
+    k: Kind,
+    j: Mark,
+) -> Pair
+    requires { ⌜ (Within n m (now rules) (now entries) k j) × (length (now links) ≡ n * n) × (length (now disputes) ≡ m) ⌝ }
+    ensures { λ r. ⌜ ((tally : List ℕ) → Disputing n m (lent (now (links .entry)) (now (rules .entry)) (now (entries .entry)) tally (now (disputes .entry))) (k .0) (j .0) (paired r)) ⌝ }
 {
     let mut rows = [0u64; 256];
     let mut order = [0u8; 128];
@@ -29,6 +38,7 @@ fn answer(n: u16, m: u16, links: &[u8], rules: &[u16], entries: &[u16], k: Kind,
         links,
         rules,
         entries,
+        disputes,
         &mut rows,
         &mut order,
         &mut reach,
@@ -51,13 +61,14 @@ pub fn parties(
     rules: &[u16],
     entries: &[u16],
     tally: &[u32],
+    disputes: &[u16],
     kind: Kind,
     mark: Mark,
 ) -> Pair
-    ensures { λ r. ⌜ PartiesGive n m (lent (now (links .entry)) (now (rules .entry)) (now (entries .entry)) (now (tally .entry))) (kind .0) (mark .0) (paired r) ⌝ }
+    ensures { λ r. ⌜ PartiesGive n m (lent (now (links .entry)) (now (rules .entry)) (now (entries .entry)) (now (tally .entry)) (now (disputes .entry))) (kind .0) (mark .0) (paired r) ⌝ }
 {
-    match asking::ask_place(n, m, links, rules, entries, tally, kind, mark) {
+    match asking::ask_place(n, m, links, rules, entries, tally, disputes, kind, mark) {
         Asked::Refused(why) => Pair::Refused(why),
-        Asked::At(k, j) => answer(n, m, links, rules, entries, k, j),
+        Asked::At(k, j) => answer(n, m, links, rules, entries, disputes, k, j),
     }
 }

@@ -22,9 +22,10 @@ pub fn make(
     rules: &mut [u16],
     entries: &mut [u16],
     tally: &mut [u32],
+    disputes: &mut [u16],
 ) -> Edited
-    ensures { λ r. ⌜ leaves (edited r) (lent (now (links .exit)) (now (rules .exit)) (now (entries .exit)) (now (tally .exit)))
-        ≡ editOutcome n m (lent (now (links .entry)) (now (rules .entry)) (now (entries .entry)) (now (tally .entry))) (caller .0) (editOf edit) ⌝ }
+    ensures { λ r. ⌜ leaves (edited r) (lent (now (links .exit)) (now (rules .exit)) (now (entries .exit)) (now (tally .exit)) (now (disputes .exit)))
+        ≡ editOutcome n m (lent (now (links .entry)) (now (rules .entry)) (now (entries .entry)) (now (tally .entry)) (now (disputes .entry))) (caller .0) (editOf edit) ⌝ }
 {
     match edit {
         Edit::AddRule(kind, mark, handling) => {
@@ -35,6 +36,7 @@ pub fn make(
                 rules,
                 entries,
                 tally,
+                disputes,
                 caller,
                 kind,
                 mark,
@@ -48,15 +50,38 @@ pub fn make(
             rules,
             entries,
             tally,
+            disputes,
             caller,
             kind,
             mark,
         ),
         Edit::AddLink(child, parent) => {
-            add_link(n, m, links, rules, entries, tally, caller, child, parent)
+            add_link(
+                n,
+                m,
+                links,
+                rules,
+                entries,
+                tally,
+                disputes,
+                caller,
+                child,
+                parent,
+            )
         }
         Edit::TakeLink(child, parent) => {
-            take_link(n, m, links, rules, entries, tally, caller, child, parent)
+            take_link(
+                n,
+                m,
+                links,
+                rules,
+                entries,
+                tally,
+                disputes,
+                caller,
+                child,
+                parent,
+            )
         }
     }
 }

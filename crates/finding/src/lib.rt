@@ -57,12 +57,13 @@ pub fn find(
     rules: &[u16],
     entries: &[u16],
     tally: &[u32],
+    disputes: &[u16],
     kind: Kind,
     mark: Mark,
 ) -> Found
-    ensures { λ r. ⌜ found r ≡ find n m (lent (now (links .entry)) (now (rules .entry)) (now (entries .entry)) (now (tally .entry))) (kind .0) (mark .0) .reply ⌝ }
+    ensures { λ r. ⌜ found r ≡ find n m (lent (now (links .entry)) (now (rules .entry)) (now (entries .entry)) (now (tally .entry)) (now (disputes .entry))) (kind .0) (mark .0) .reply ⌝ }
 {
-    match asking::ask_place(n, m, links, rules, entries, tally, kind, mark) {
+    match asking::ask_place(n, m, links, rules, entries, tally, disputes, kind, mark) {
         Asked::Refused(why) => Found::Refused(why),
         Asked::At(k, j) => answer(n, m, rules, entries, k, j),
     }

@@ -20,10 +20,11 @@ pub extern "C" fn house_open(
     rules: &mut [u16],
     entries: &mut [u16],
     tally: &mut [u32],
+    disputes: &mut [u16],
 ) -> u32
-    ensures { λ r. ⌜ Answers packedOpened (openBook n m (lent (now (links .entry)) (now (rules .entry)) (now (entries .entry)) (now (tally .entry)))) r (lent (now (links .exit)) (now (rules .exit)) (now (entries .exit)) (now (tally .exit))) ⌝ }
+    ensures { λ r. ⌜ Answers packedOpened (openBook n m (lent (now (links .entry)) (now (rules .entry)) (now (entries .entry)) (now (tally .entry)) (now (disputes .entry)))) r (lent (now (links .exit)) (now (rules .exit)) (now (entries .exit)) (now (tally .exit)) (now (disputes .exit))) ⌝ }
 {
-    pack_opened(calls::open(n, m, links, rules, entries, tally))
+    pack_opened(calls::open(n, m, links, rules, entries, tally, disputes))
 }
 
 // Add rule.
@@ -35,12 +36,13 @@ pub extern "C" fn house_add_rule(
     rules: &mut [u16],
     entries: &mut [u16],
     tally: &mut [u32],
+    disputes: &mut [u16],
     caller: u16,
     kind: u16,
     mark: u16,
     handling: u16,
 ) -> u32
-    ensures { λ r. ⌜ Answers packedEdited (addRule n m (lent (now (links .entry)) (now (rules .entry)) (now (entries .entry)) (now (tally .entry))) caller kind mark handling) r (lent (now (links .entry)) (now (rules .exit)) (now (entries .exit)) (now (tally .exit))) ⌝ }
+    ensures { λ r. ⌜ Answers packedEdited (addRule n m (lent (now (links .entry)) (now (rules .entry)) (now (entries .entry)) (now (tally .entry)) (now (disputes .entry))) caller kind mark handling) r (lent (now (links .entry)) (now (rules .exit)) (now (entries .exit)) (now (tally .exit)) (now (disputes .exit))) ⌝ }
 {
     pack_edited(calls::add_rule(
         n,
@@ -49,6 +51,7 @@ pub extern "C" fn house_add_rule(
         rules,
         entries,
         tally,
+        disputes,
         Caller(caller),
         Kind(kind),
         Mark(mark),
@@ -65,16 +68,17 @@ pub extern "C" fn house_take_rule(
     rules: &mut [u16],
     entries: &mut [u16],
     tally: &mut [u32],
+    disputes: &mut [u16],
     caller: u16,
     kind: u16,
     mark: u16,
 ) -> u32
-    ensures { λ r. ⌜ Answers packedEdited (takeRule n m (lent (now (links .entry)) (now (rules .entry)) (now (entries .entry)) (now (tally .entry))) caller kind mark) r (lent (now (links .entry)) (now (rules .exit)) (now (entries .exit)) (now (tally .exit))) ⌝ }
+    ensures { λ r. ⌜ Answers packedEdited (takeRule n m (lent (now (links .entry)) (now (rules .entry)) (now (entries .entry)) (now (tally .entry)) (now (disputes .entry))) caller kind mark) r (lent (now (links .entry)) (now (rules .exit)) (now (entries .exit)) (now (tally .exit)) (now (disputes .exit))) ⌝ }
 {
     let by = Caller(caller);
     let k = Kind(kind);
     let j = Mark(mark);
-    pack_edited(calls::take_rule(n, m, links, rules, entries, tally, by, k, j))
+    pack_edited(calls::take_rule(n, m, links, rules, entries, tally, disputes, by, k, j))
 }
 
 // Add link.
@@ -86,16 +90,17 @@ pub extern "C" fn house_add_link(
     rules: &[u16],
     entries: &mut [u16],
     tally: &mut [u32],
+    disputes: &mut [u16],
     caller: u16,
     child: u16,
     parent: u16,
 ) -> u32
-    ensures { λ r. ⌜ Answers packedEdited (addLink n m (lent (now (links .entry)) (now (rules .entry)) (now (entries .entry)) (now (tally .entry))) caller child parent) r (lent (now (links .exit)) (now (rules .entry)) (now (entries .exit)) (now (tally .exit))) ⌝ }
+    ensures { λ r. ⌜ Answers packedEdited (addLink n m (lent (now (links .entry)) (now (rules .entry)) (now (entries .entry)) (now (tally .entry)) (now (disputes .entry))) caller child parent) r (lent (now (links .exit)) (now (rules .entry)) (now (entries .exit)) (now (tally .exit)) (now (disputes .exit))) ⌝ }
 {
     let by = Caller(caller);
     let c = Kind(child);
     let p = Kind(parent);
-    pack_edited(calls::add_link(n, m, links, rules, entries, tally, by, c, p))
+    pack_edited(calls::add_link(n, m, links, rules, entries, tally, disputes, by, c, p))
 }
 
 // Take link.
@@ -107,16 +112,17 @@ pub extern "C" fn house_take_link(
     rules: &[u16],
     entries: &mut [u16],
     tally: &mut [u32],
+    disputes: &mut [u16],
     caller: u16,
     child: u16,
     parent: u16,
 ) -> u32
-    ensures { λ r. ⌜ Answers packedEdited (takeLink n m (lent (now (links .entry)) (now (rules .entry)) (now (entries .entry)) (now (tally .entry))) caller child parent) r (lent (now (links .exit)) (now (rules .entry)) (now (entries .exit)) (now (tally .exit))) ⌝ }
+    ensures { λ r. ⌜ Answers packedEdited (takeLink n m (lent (now (links .entry)) (now (rules .entry)) (now (entries .entry)) (now (tally .entry)) (now (disputes .entry))) caller child parent) r (lent (now (links .exit)) (now (rules .entry)) (now (entries .exit)) (now (tally .exit)) (now (disputes .exit))) ⌝ }
 {
     let by = Caller(caller);
     let c = Kind(child);
     let p = Kind(parent);
-    pack_edited(calls::take_link(n, m, links, rules, entries, tally, by, c, p))
+    pack_edited(calls::take_link(n, m, links, rules, entries, tally, disputes, by, c, p))
 }
 
 // Refresh.
@@ -128,10 +134,11 @@ pub extern "C" fn house_refresh(
     rules: &[u16],
     entries: &mut [u16],
     tally: &[u32],
+    disputes: &mut [u16],
 ) -> u32
-    ensures { λ r. ⌜ Answers packedEdited (refresh n m (lent (now (links .entry)) (now (rules .entry)) (now (entries .entry)) (now (tally .entry)))) r (lent (now (links .entry)) (now (rules .entry)) (now (entries .exit)) (now (tally .entry))) ⌝ }
+    ensures { λ r. ⌜ Answers packedEdited (refresh n m (lent (now (links .entry)) (now (rules .entry)) (now (entries .entry)) (now (tally .entry)) (now (disputes .entry)))) r (lent (now (links .entry)) (now (rules .entry)) (now (entries .exit)) (now (tally .entry)) (now (disputes .exit))) ⌝ }
 {
-    pack_edited(calls::refresh(n, m, links, rules, entries, tally))
+    pack_edited(calls::refresh(n, m, links, rules, entries, tally, disputes))
 }
 
 // Inspect.
@@ -143,10 +150,11 @@ pub extern "C" fn house_inspect(
     rules: &[u16],
     entries: &[u16],
     tally: &[u32],
+    disputes: &[u16],
 ) -> u32
-    ensures { λ r. ⌜ r ≡ packedFault (inspect n m (lent (now (links .entry)) (now (rules .entry)) (now (entries .entry)) (now (tally .entry))) .reply) ⌝ }
+    ensures { λ r. ⌜ r ≡ packedFault (inspect n m (lent (now (links .entry)) (now (rules .entry)) (now (entries .entry)) (now (tally .entry)) (now (disputes .entry))) .reply) ⌝ }
 {
-    pack_inspected(calls::inspect(n, m, links, rules, entries, tally))
+    pack_inspected(calls::inspect(n, m, links, rules, entries, tally, disputes))
 }
 
 // Parties.
@@ -158,10 +166,21 @@ pub extern "C" fn house_parties(
     rules: &[u16],
     entries: &[u16],
     tally: &[u32],
+    disputes: &[u16],
     kind: u16,
     mark: u16,
 ) -> u32
-    ensures { λ r. ⌜ GivesPair n m (lent (now (links .entry)) (now (rules .entry)) (now (entries .entry)) (now (tally .entry))) kind mark r ⌝ }
+    ensures { λ r. ⌜ GivesPair n m (lent (now (links .entry)) (now (rules .entry)) (now (entries .entry)) (now (tally .entry)) (now (disputes .entry))) kind mark r ⌝ }
 {
-    pack_pair(calls::parties(n, m, links, rules, entries, tally, Kind(kind), Mark(mark)))
+    pack_pair(calls::parties(
+        n,
+        m,
+        links,
+        rules,
+        entries,
+        tally,
+        disputes,
+        Kind(kind),
+        Mark(mark),
+    ))
 }

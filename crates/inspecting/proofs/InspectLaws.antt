@@ -1,5 +1,6 @@
 -- A search for the lowest number that fails a test, and what inspect answers by it.
 --     lowest-none, lowest-is, lowest-le, lowest-same     `lowest`: where all pass, where one is known, at most k, and of tests that agree
+--     fails-if, passes-if                                whether all pass, by the number found
 --     Searching                                          every number below i passes: the invariant of a loop
 --     searching-none, searching-more                     where the loop begins, and what a turn does
 --     searching-found, searching-all                     the first number that fails is found; none is
@@ -13,20 +14,24 @@ use mathlib.Core.List.{List}
 use Prim.Native.Nat.{ℕ, zero, suc, _+_, _*_, _<_, _≤_}
 use native.Mathlib.Decide.{decLt}
 use native.Mathlib.Omega.{arith}
-use lib.ListN.{length}
+use lib.Dec.{eqb}
+use lib.ListN.{length, getD}
 use Rattle.inheritance.specs.Above.{above}
 use Rattle.inheritance.proofs.AboveLaws.{above-same}
 use Rattle.relation.specs.Bit.{bit}
 use Rattle.closing.specs.Closed.{Closed}
 use Rattle.loading.specs.Loaded.{Loaded}
 use Rattle.soundness.proofs.Soundness.{rows-links}
-use Rattle.tables.specs.Reply.{refused, given}
-use Rattle.tables.specs.Tables.{Tables, shaped, upOf, entriesOf, all-below, byte-right, bytes-right, kind-free, entry-right, well-linked, links-right}
+use Rattle.tables.specs.Reply.{refused, given, Fault}
+use Rattle.tables.specs.Tables.{Tables, shaped, upOf, entriesOf, disputesOf, all-below, byte-right, bytes-right, kind-free, entry-right, count-right}
+use Rattle.tables.specs.Tables.{well-linked, links-right}
 use Rattle.tables.specs.Calls.{check, lowest, firstFault, faultOf, inspect}
 use Rattle.tables.proofs.CallLaws.{Lowest, lowest-fails}
+use Rattle.tables.proofs.DisputeLaws.{disputes-at}
 use Rattle.tables.proofs.ShapeLaws.{sized-facts}
+use Rattle.tables.proofs.SoundLaws.{entries-true}
 use Rattle.tables.proofs.TableLaws.{below-suc, below-true, below-same}
-use Rattle.inspecting.specs.Faults.{off-own-row, linkFault, entryFault}
+use Rattle.inspecting.specs.Faults.{off-own-row, linkFault, same-at, entryFault}
 
 -- ---- the lowest number that fails
 
@@ -54,6 +59,21 @@ module _ (f : ℕ → Bool) (k : ℕ) where
 
   lowest-is : {i : ℕ} → Lowest f k i → lowest f k ≡ i
   lowest-is {i} l = one-lowest (lowest-fails f k (fails-below f k i (l .within) (l .fails))) l
+
+  -- what a number found says of them all
+  pub fails-if : {i : ℕ} → i ≡ lowest f k → i < k → all-below f k ≡ false
+  fails-if {i} is h = go (all-below f k) refl
+    where
+      go : (b : Bool) → all-below f k ≡ b → b ≡ false
+      go true e = absurd (omega (arith, lowest-none f k e))
+      go false e = refl
+
+  pub passes-if : {i : ℕ} → i ≡ lowest f k → k ≤ i → all-below f k ≡ true
+  passes-if {i} is h = go (all-below f k) refl
+    where
+      go : (b : Bool) → all-below f k ≡ b → b ≡ true
+      go true e = refl
+      go false e = absurd (omega (arith, lowest-fails f k e .within))
 
   pub lowest-le : {i : ℕ} → i ≡ lowest f k → i ≤ k
   lowest-le {i} is = go (all-below f k) refl
@@ -114,31 +134,50 @@ module _ (n m : ℕ) (t : Tables) where
       → given (linkFault n (t .links) closed) ≡ inspect n m t .reply
   unfolding inspect check faultOf bytes-right well-linked
   inspect-links {rows} {closed} is loaded closes bad =
-      rw (is, size) (ap given (go (all-below (byte-right (t .links)) (n * n)) refl (all-below (kind-free n (upOf n (t .links))) n) (all-below (entry-right n m (upOf n (t .links)) (t .rules) (t .entries)) (n * m)) _ _ bad))
+      rw (is, size) (ap given (go (all-below (byte-right (t .links)) (n * n)) refl (all-below (kind-free n (upOf n (t .links))) n) (all-below (entry-right n m (upOf n (t .links)) (t .rules) (t .entries)) (n * m))
+      (all-below (count-right n m (t .entries) (t .disputes)) m) _ _ _ bad))
     where
       size : length (t .links) ≡ n * n
-      size = sized-facts 1 1 n m _ _ _ _ is .links-length
+      size = sized-facts 1 1 n m _ _ _ _ _ is .links-length
 
       kinds : all-below (byte-right (t .links)) (n * n) ≡ true → lowest (off-own-row closed) n ≡ lowest (kind-free n (upOf n (t .links))) n
       kinds right = lowest-same _ _ n
-          (free-tests n (t .links) rows closed (sized-facts 1 1 n m _ _ _ _ is .kinds .1) (loaded (ap (all-below (byte-right (t .links))) size ∙ right)) closes)
+          (free-tests n (t .links) rows closed (sized-facts 1 1 n m _ _ _ _ _ is .kinds .1) (loaded (ap (all-below (byte-right (t .links))) size ∙ right)) closes)
 
-      go : (a : Bool) → all-below (byte-right (t .links)) (n * n) ≡ a → (b c : Bool) (byte entry : ℕ) → (a && b) ≡ false
-          → firstFault a false true byte (lowest (off-own-row closed) n) 0 ≡ firstFault a b c byte (lowest (kind-free n (upOf n (t .links))) n) entry
-      go false q b c byte entry e = refl
-      go true q false c byte entry e = ap (λ (k : ℕ). firstFault true false true byte k 0) (kinds q)
-      go true q true c byte entry e = absurd (true≢false e)
+      go : (a : Bool) → all-below (byte-right (t .links)) (n * n) ≡ a → (b c d : Bool) (byte entry mark : ℕ) → (a && b) ≡ false
+          → firstFault a false true true byte (lowest (off-own-row closed) n) 0 0 ≡ firstFault a b c d byte (lowest (kind-free n (upOf n (t .links))) n) entry mark
+      go false q b c d byte entry mark e = refl
+      go true q false c d byte entry mark e = ap (λ (k : ℕ). firstFault true false true true byte k 0 0) (kinds q)
+      go true q true c d byte entry mark e = absurd (true≢false e)
 
-  pub inspect-entries : {lookups : List ℕ} → shaped n m t ≡ true → links-right n (t .links) ≡ true → lookups ≡ entriesOf n m (upOf n (t .links)) (t .rules)
-      → given (entryFault (t .entries) lookups) ≡ inspect n m t .reply
+  -- where the entries are right, the counts of the lookups are those of the entries; else an entry is the fault, whatever the counts are
+  pub inspect-entries : {lookups counts : List ℕ} → shaped n m t ≡ true → links-right n (t .links) ≡ true → lookups ≡ entriesOf n m (upOf n (t .links)) (t .rules)
+      → counts ≡ disputesOf n m lookups → given (entryFault (t .entries) lookups (t .disputes) counts) ≡ inspect n m t .reply
   unfolding inspect check faultOf bytes-right well-linked
-  inspect-entries is good looked =
-      let s = sized-facts 1 1 n m _ _ _ _ is in
-      let size : length (t .entries) ≡ n * m = omega (arith, s .entries-length) in
-      rw (is, looked, size) (ap given (go (all-below (byte-right (t .links)) (n * n)) (all-below (kind-free n (upOf n (t .links))) n) (all-below (entry-right n m (upOf n (t .links)) (t .rules) (t .entries)) (n * m)) _ _ _ good))
+  inspect-entries {lookups} {counts} is good looked counted =
+      let s = sized-facts 1 1 n m _ _ _ _ _ is in
+      let marks : length (t .disputes) ≡ m = omega (arith, s .disputes-length) in
+      rw (is, looked, size, marks) (ap given (go (all-below (byte-right (t .links)) (n * n)) (all-below (kind-free n (upOf n (t .links))) n) (all-below entries-right (n * m))
+      (all-below (same-at (t .disputes) counts) m) (all-below (count-right n m (t .entries) (t .disputes)) m) _ _ _ _ _ good
+      (λ right. (below-same _ _ m (agree right), lowest-same _ _ m (agree right)))))
     where
-      go : (a b c : Bool) (byte kind entry : ℕ) → (a && b) ≡ true → firstFault true true c 0 0 entry ≡ firstFault a b c byte kind entry
-      go true true true byte kind entry e = refl
-      go true true false byte kind entry e = refl
-      go true false c byte kind entry e = absurd (false≢true e)
-      go false b c byte kind entry e = absurd (false≢true e)
+      size : length (t .entries) ≡ n * m
+      size = omega (arith, sized-facts 1 1 n m _ _ _ _ _ is .entries-length)
+
+      entries-right : ℕ → Bool
+      entries-right = entry-right n m (upOf n (t .links)) (t .rules) (t .entries)
+
+      agree : all-below entries-right (n * m) ≡ true → (j : ℕ) → j < m → same-at (t .disputes) counts j ≡ count-right n m (t .entries) (t .disputes) j
+      agree right j h =
+          let same : lookups ≡ t .entries = looked ∙ sym (entries-true n m (upOf n (t .links)) (t .rules) (t .entries) size right) in
+          ap (eqb (getD (t .disputes) j 0)) (ap (λ (l : List ℕ). getD l j 0) (counted ∙ ap (disputesOf n m) same) ∙ disputes-at n m (t .entries) j h)
+
+      go : (a b c d d′ : Bool) (byte kind entry mark mark′ : ℕ) → (a && b) ≡ true → (c ≡ true → (d ≡ d′) × (mark ≡ mark′))
+          → firstFault true true c d 0 0 entry mark ≡ firstFault a b c d′ byte kind entry mark′
+      go true true true true true byte kind entry mark mark′ e same = refl
+      go true true true false false byte kind entry mark mark′ e same = ap Fault.wrong-count (same refl .1)
+      go true true true true false byte kind entry mark mark′ e same = absurd (true≢false (same refl .0))
+      go true true true false true byte kind entry mark mark′ e same = absurd (false≢true (same refl .0))
+      go true true false d d′ byte kind entry mark mark′ e same = refl
+      go true false c d d′ byte kind entry mark mark′ e same = absurd (false≢true e)
+      go false b c d d′ byte kind entry mark mark′ e same = absurd (false≢true e)

@@ -1,6 +1,7 @@
 // Inspect: the first fault of the tables.
 use closing::close;
 use inheritance::Kind;
+use inheritance::Mark;
 use lookups::look_up;
 use relation::test;
 use tables::Inspected;
@@ -11,7 +12,7 @@ ghost use lib.ListN.{length};
 ghost use Rattle.tables.specs.Calls.{lowest, inspect};
 ghost use Rattle.tables.specs.Reply.{given, inspected};
 ghost use Rattle.tables.specs.Tables.{lent};
-ghost use Rattle.inspecting.specs.Faults.{off-own-row, linkFault, entryFault};
+ghost use Rattle.inspecting.specs.Faults.{off-own-row, linkFault, same-at, entryFault};
 
 // The lowest kind below n that is in its own row; n where none is.
 fn first_in_own_row(rows: &[u64; 256], n: usize) -> usize
@@ -42,16 +43,33 @@ fn link_fault(n: usize, links: &[u8], closed: &[u64; 256]) -> Inspected
     Inspected::AboveItself(Kind(kind))
 }
 
-// The fault of entries, where the links have none: the lowest place whose entry is not its lookup.
-fn entry_fault(entries: &[u16], lookups: &[u16]) -> Inspected
-    requires { ⌜ (length (now lookups) ≡ length (now entries)) × (length (now entries) ≤ 8192) ⌝ }
-    ensures { λ r. ⌜ inspected r ≡ given (entryFault (now (entries .entry)) (now (lookups .entry))) ⌝ }
+// The lowest place at which two tables differ; their length where none does.
+fn first_apart(xs: &[u16], ys: &[u16]) -> usize
+    requires { ⌜ length (now ys) ≡ length (now xs) ⌝ }
+    ensures { λ r. ⌜ r ≡ lowest (same-at (now (xs .entry)) (now (ys .entry))) (length (now (xs .entry))) ⌝ }
 {
-    for i in 0..entries.len() {
-        if entries[i] != lookups[i] {
-            let place = i as u16;
-            return Inspected::WrongEntry(place);
+    for i in 0..xs.len() {
+        if xs[i] != ys[i] {
+            return i;
         }
+    }
+    xs.len()
+}
+
+// The fault of tables whose links have none: the lowest place whose entry is not its lookup, or else the lowest mark whose dispute
+// count is not that of the lookups.
+fn entry_fault(entries: &[u16], lookups: &[u16], disputes: &[u16], counts: &[u16]) -> Inspected
+    requires { ⌜ (length (now lookups) ≡ length (now entries)) × (length (now entries) ≤ 8192) ⌝ }
+    requires { ⌜ (length (now counts) ≡ length (now disputes)) × (length (now disputes) ≤ 64) ⌝ }
+    ensures { λ r. ⌜ inspected r ≡ given (entryFault (now (entries .entry)) (now (lookups .entry)) (now (disputes .entry)) (now (counts .entry))) ⌝ }
+{
+    let place = first_apart(entries, lookups);
+    if place < entries.len() {
+        return Inspected::WrongEntry(place as u16);
+    }
+    let mark = first_apart(disputes, counts);
+    if mark < disputes.len() {
+        return Inspected::WrongCount(Mark(mark as u16));
     }
     Inspected::Sound
 }
@@ -65,20 +83,31 @@ pub fn inspect(
     rules: &[u16],
     entries: &[u16],
     tally: &[u32],
+    disputes: &[u16],
 ) -> Inspected
-    ensures { λ r. ⌜ inspected r ≡ inspect n m (lent (now (links .entry)) (now (rules .entry)) (now (entries .entry)) (now (tally .entry))) .reply ⌝ }
+    ensures { λ r. ⌜ inspected r ≡ inspect n m (lent (now (links .entry)) (now (rules .entry)) (now (entries .entry)) (now (tally .entry)) (now (disputes .entry))) .reply ⌝ }
 {
-    let shaped = asking::shape(n, m, links, rules, entries, tally);
+    let shaped = asking::shape(n, m, links, rules, entries, tally, disputes);
     if !shaped {
         return Inspected::Refused(Refusal::Shape);
     }
     let mut rows = [0u64; 256];
     let mut scratch = [0u16; 8192];
     let lookups = &mut scratch[..entries.len()];
-    let linked = look_up(n as usize, m as usize, links, rules, &mut rows, lookups);
+    let mut counted = [0u16; 64];
+    let counts = &mut counted[..disputes.len()];
+    let linked = look_up(
+        n as usize,
+        m as usize,
+        links,
+        rules,
+        &mut rows,
+        lookups,
+        counts,
+    );
     if !linked {
         close(&mut rows, n as usize);
         return link_fault(n as usize, links, &rows);
     }
-    entry_fault(entries, lookups)
+    entry_fault(entries, lookups, disputes, counts)
 }

@@ -51,12 +51,13 @@ pub extern "C" fn lane_find(
     rules: &[u8],
     entries: &[u8],
     tally: &[u8],
+    disputes: &[u8],
     kind: u16,
     mark: u16,
 ) -> u32
-    ensures { λ r. ⌜ r ≡ findPacked n m (lent (now (links .entry)) (now (rules .entry)) (now (entries .entry)) (now (tally .entry))) kind mark ⌝ }
+    ensures { λ r. ⌜ r ≡ findPacked n m (lent (now (links .entry)) (now (rules .entry)) (now (entries .entry)) (now (tally .entry)) (now (disputes .entry))) kind mark ⌝ }
 {
-    let shaped = asking::shape_bytes(n, m, links, rules, entries, tally);
+    let shaped = asking::shape_bytes(n, m, links, rules, entries, tally, disputes);
     match asking::ask(shaped, n, m, Kind(kind), Mark(mark)) {
         Asked::Refused(why) => why.number() as u32,
         Asked::At(k, j) => answer(n, m, rules, entries, k, j),

@@ -67,14 +67,15 @@ fn edit_link(
     rules: &[u16],
     entries: &mut [u16],
     tally: &mut [u32],
+    disputes: &mut [u16],
     caller: Caller,
     child: Kind,
     parent: Kind,
     adding: bool,
 ) -> Edited
-    requires { ⌜ (shaped n m (lent (now links) (now rules) (now entries) (now tally)) ≡ true) × (caller .0 < callers) × (child .0 < n) × (parent .0 < n) ⌝ }
-    ensures { λ r. ⌜ leaves (edited r) (lent (now (links .exit)) (now (rules .entry)) (now (entries .exit)) (now (tally .exit)))
-        ≡ linkEdit n m (lent (now (links .entry)) (now (rules .entry)) (now (entries .entry)) (now (tally .entry))) (caller .0) (child .0) (parent .0) adding ⌝ }
+    requires { ⌜ (shaped n m (lent (now links) (now rules) (now entries) (now tally) (now disputes)) ≡ true) × (caller .0 < callers) × (child .0 < n) × (parent .0 < n) ⌝ }
+    ensures { λ r. ⌜ leaves (edited r) (lent (now (links .exit)) (now (rules .entry)) (now (entries .exit)) (now (tally .exit)) (now (disputes .exit)))
+        ≡ linkEdit n m (lent (now (links .entry)) (now (rules .entry)) (now (entries .entry)) (now (tally .entry)) (now (disputes .entry))) (caller .0) (child .0) (parent .0) adding ⌝ }
 {
     let mut rows = [0u64; 256];
     let mut order = [0u8; 128];
@@ -86,6 +87,7 @@ fn edit_link(
         links,
         rules,
         entries,
+        disputes,
         &mut rows,
         &mut order,
         &mut reach,
@@ -104,6 +106,7 @@ fn edit_link(
             rules,
             entries,
             tally,
+            disputes,
             &mut rows,
             &mut order,
             &mut reach,
@@ -124,20 +127,33 @@ fn change_link(
     rules: &[u16],
     entries: &mut [u16],
     tally: &mut [u32],
+    disputes: &mut [u16],
     caller: Caller,
     child: Kind,
     parent: Kind,
     adding: bool,
 ) -> Edited
-    ensures { λ r. ⌜ leaves (edited r) (lent (now (links .exit)) (now (rules .entry)) (now (entries .exit)) (now (tally .exit)))
-        ≡ linkCall n m (lent (now (links .entry)) (now (rules .entry)) (now (entries .entry)) (now (tally .entry))) (caller .0) (child .0) (parent .0) adding ⌝ }
+    ensures { λ r. ⌜ leaves (edited r) (lent (now (links .exit)) (now (rules .entry)) (now (entries .exit)) (now (tally .exit)) (now (disputes .exit)))
+        ≡ linkCall n m (lent (now (links .entry)) (now (rules .entry)) (now (entries .entry)) (now (tally .entry)) (now (disputes .entry))) (caller .0) (child .0) (parent .0) adding ⌝ }
 {
-    match ask_caller(n, m, links, rules, entries, tally, caller) {
+    match ask_caller(n, m, links, rules, entries, tally, disputes, caller) {
         CallerAsked::Refused(why) => Edited::Refused(why),
         CallerAsked::By(by) => match ask_link(n, child, parent) {
             LinkAsked::Refused(why) => Edited::Refused(why),
             LinkAsked::Between(c, p) => {
-                edit_link(n, m, links, rules, entries, tally, by, c, p, adding)
+                edit_link(
+                    n,
+                    m,
+                    links,
+                    rules,
+                    entries,
+                    tally,
+                    disputes,
+                    by,
+                    c,
+                    p,
+                    adding,
+                )
             }
         },
     }
@@ -151,12 +167,13 @@ pub fn add_link(
     rules: &[u16],
     entries: &mut [u16],
     tally: &mut [u32],
+    disputes: &mut [u16],
     caller: Caller,
     child: Kind,
     parent: Kind,
 ) -> Edited
-    ensures { λ r. ⌜ leaves (edited r) (lent (now (links .exit)) (now (rules .entry)) (now (entries .exit)) (now (tally .exit)))
-        ≡ addLink n m (lent (now (links .entry)) (now (rules .entry)) (now (entries .entry)) (now (tally .entry))) (caller .0) (child .0) (parent .0) ⌝ }
+    ensures { λ r. ⌜ leaves (edited r) (lent (now (links .exit)) (now (rules .entry)) (now (entries .exit)) (now (tally .exit)) (now (disputes .exit)))
+        ≡ addLink n m (lent (now (links .entry)) (now (rules .entry)) (now (entries .entry)) (now (tally .entry)) (now (disputes .entry))) (caller .0) (child .0) (parent .0) ⌝ }
 {
     change_link(
         n,
@@ -165,6 +182,7 @@ pub fn add_link(
         rules,
         entries,
         tally,
+        disputes,
         caller,
         child,
         parent,
@@ -180,12 +198,13 @@ pub fn take_link(
     rules: &[u16],
     entries: &mut [u16],
     tally: &mut [u32],
+    disputes: &mut [u16],
     caller: Caller,
     child: Kind,
     parent: Kind,
 ) -> Edited
-    ensures { λ r. ⌜ leaves (edited r) (lent (now (links .exit)) (now (rules .entry)) (now (entries .exit)) (now (tally .exit)))
-        ≡ takeLink n m (lent (now (links .entry)) (now (rules .entry)) (now (entries .entry)) (now (tally .entry))) (caller .0) (child .0) (parent .0) ⌝ }
+    ensures { λ r. ⌜ leaves (edited r) (lent (now (links .exit)) (now (rules .entry)) (now (entries .exit)) (now (tally .exit)) (now (disputes .exit)))
+        ≡ takeLink n m (lent (now (links .entry)) (now (rules .entry)) (now (entries .entry)) (now (tally .entry)) (now (disputes .entry))) (caller .0) (child .0) (parent .0) ⌝ }
 {
     change_link(
         n,
@@ -194,6 +213,7 @@ pub fn take_link(
         rules,
         entries,
         tally,
+        disputes,
         caller,
         child,
         parent,

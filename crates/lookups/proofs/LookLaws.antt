@@ -22,18 +22,24 @@ pub part-length : (k size x : ℕ) → k ≤ size → length (take k (replicate 
 part-length k size x h = length-take-le k (replicate size x) (omega (arith, length-replicate size x))
 
 module _ (n m : ℕ) (t : Tables) (is : shaped n m t ≡ true) where
-  pub places-fit : (length (t .links) ≤ 16384) × (length (t .entries) ≤ 8192)
+  pub places-fit : (length (t .links) ≤ 16384) × (length (t .entries) ≤ 8192) × (length (t .disputes) ≤ 64)
   places-fit =
-      let s = sized-facts 1 1 n m _ _ _ _ is in (
+      let s = sized-facts 1 1 n m _ _ _ _ _ is in (
         omega (arith, s .links-length, mul-le-mul (s .kinds .1) (s .kinds .1)),
         omega (arith, s .entries-length, mul-le-mul (s .kinds .1) (s .marks .1)),
+        omega (arith, s .disputes-length, s .marks .1),
       )
 
-  pub look-ready : {lookups : List ℕ} → length lookups ≡ length (t .entries) → Sized n m (t .rules) lookups × (length (t .links) ≡ n * n)
-  look-ready same =
-      let s = sized-facts 1 1 n m _ _ _ _ is in
-      let z = shape-sized n m t s in
-      (record { kinds = z .kinds; marks = z .marks; rules-size = z .rules-size; entries-size = same ∙ z .entries-size }, s .links-length)
+  pub look-ready : {lookups : List ℕ} {marks : ℕ} → length lookups ≡ length (t .entries) → marks ≡ length (t .disputes)
+      → Sized n m (t .rules) lookups × (length (t .links) ≡ n * n) × (1 ≤ m) × (marks ≡ m)
+  look-ready same same-marks =
+      let s = sized-facts 1 1 n m _ _ _ _ _ is in
+      let z = shape-sized n m t s in (
+        record { kinds = z .kinds; marks = z .marks; rules-size = z .rules-size; entries-size = same ∙ z .entries-size },
+        s .links-length,
+        s .marks .0,
+        omega (arith, same-marks, s .disputes-length),
+      )
 
 pub looked-links : (n m : ℕ) (links rows rules table : List ℕ) → n ≤ 128 → links-right n links ≡ true → Loaded n links rows → table ≡ entriesOf n m (bit rows) rules
     → table ≡ entriesOf n m (upOf n links) rules

@@ -4,7 +4,7 @@
 --     packedPair      256 × one + the other
 --     GivesPair       some reply that parties may give, packed
 --     Answers         a call's outcome as programs in C get it: one number, and the tables that it leaves
---     packedFault     sound is 0; a link byte's place, a kind and an entry's place are told apart by their upper half
+--     packedFault     sound is 0; a link byte's place, a kind, an entry's place and a mark are told apart by their upper half
 -- Assumes nothing.
 use mathlib.Core.Path.{_≡_}
 use Prim.Native.Nat.{ℕ, _+_, _*_}
@@ -30,6 +30,7 @@ packedFault (given Fault.sound) = 0
 packedFault (given (Fault.link-byte place)) = 131072 + place
 packedFault (given (Fault.above-itself kind)) = 196608 + kind
 packedFault (given (Fault.wrong-entry place)) = 262144 + place
+packedFault (given (Fault.wrong-count mark)) = 327680 + mark
 
 -- the number is that of some reply that parties may give
 pub record GivesPair (n m : ℕ) (t : Tables) (kind mark : ℕ) (r : ℕ) : Type 0 where

@@ -55,6 +55,7 @@ pub fn pack_inspected(reply: Inspected) -> u32
         Inspected::LinkByte(place) => 131072 + place as u32,
         Inspected::AboveItself(kind) => 196608 + kind.0 as u32,
         Inspected::WrongEntry(place) => 262144 + place as u32,
+        Inspected::WrongCount(mark) => 327680 + mark.0 as u32,
         Inspected::Refused(why) => pack_refusal(why),
     }
 }

@@ -28,9 +28,10 @@ module _ (n m : ℕ) (t : Tables) {c j : ℕ} (c<n : c < n) (j<m : j < m) where
   abbrev own : ℕ → Bool
   own = ownOf m (t .rules) j
 
-  pub dispute-two : n ≤ 128 → length (t .entries) ≡ n * m → sound n m t ≡ true → 257 ≤ getD (t .entries) (c * m + j) 0 → Two (Left n (upOf n (t .links)) (ownOf m (t .rules) j) c)
-  dispute-two kinds size is high =
-      let s = sound-means n m t size is in
+  pub dispute-two : n ≤ 128 → length (t .entries) ≡ n * m → length (t .disputes) ≡ m → sound n m t ≡ true → 257 ≤ getD (t .entries) (c * m + j) 0
+      → Two (Left n (upOf n (t .links)) (ownOf m (t .rules) j) c)
+  dispute-two kinds size counts is high =
+      let s = sound-means n m t size counts is in
       let e = getD (t .entries) (c * m + j) 0 in
       let looked = entries-looked n m (upOf n (t .links)) (t .rules) (t .entries) (s .entries) c j c<n j<m in
       let read = sym (lookup-read n m up (t .rules) (t .entries) (omega arith) c j c<n) ∙ ap lookupOf (sym looked) ∙ lookup-dispute e high in

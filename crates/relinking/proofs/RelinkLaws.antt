@@ -15,6 +15,7 @@ use lib.ListN.{length, getD, set}
 use lib.Seq.{getD-set-same, getD-set-other}
 use Rattle.inheritance.specs.Above.{Acyclic, one-if}
 use Rattle.inheritance.proofs.AboveLaws.{SameBut}
+use Rattle.counting.specs.Counting.{Counted}
 use Rattle.relation.specs.Bit.{bit}
 use Rattle.relation.proofs.Bools.{both-eqb, eqb-both}
 use Rattle.loading.specs.Loaded.{Loaded, link}
@@ -102,9 +103,10 @@ module _ (n m : ℕ) (t : Tables) (c p : ℕ) (adding : Bool) {rows order reach 
   link-untouched =
       link-awaiting n m (bit rows) (t .rules) (t .entries) (has k .sizes .entries-size) (acyclic k) (looked k) (bit rows′) c p same-but acyclic-after
 
-  pub link-done : (caller : ℕ) {links new tally : List ℕ} {count : ℕ} → links ≡ linked n (t .links) c p adding → Settled n m 0 m (bit rows′) (t .rules) (t .entries) new count
-      → tally ≡ tallied caller (t .tally) → leaves (given count) (lent links (t .rules) new tally) ≡ accepted n m t caller (linked n (t .links) c p adding) (t .rules)
-  link-done caller {new = new} stored s counted =
+  pub link-done : (caller : ℕ) {links new tally disputes : List ℕ} {count : ℕ} → links ≡ linked n (t .links) c p adding
+      → Settled n m 0 m (bit rows′) (t .rules) (t .entries) new count → Counted m new disputes → tally ≡ tallied caller (t .tally)
+      → leaves (given count) (lent links (t .rules) new tally disputes) ≡ accepted n m t caller (linked n (t .links) c p adding) (t .rules)
+  link-done caller {new = new} stored s recounted counted =
       rw (stored, counted)
-      (given-accepted n m t caller (linked n (t .links) c p adding) (t .rules) rows′ (has k .sizes .kinds) loaded-after acyclic-after
-      (all-settled n m (bit rows′) (t .rules) (t .entries) new (has k .sizes .entries-size) s))
+      (given-accepted n m t caller (linked n (t .links) c p adding) (t .rules) rows′ (has k .lengths) loaded-after acyclic-after
+      (all-settled n m (bit rows′) (t .rules) (t .entries) new (has k .sizes .entries-size) s) recounted)

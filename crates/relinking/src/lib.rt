@@ -56,6 +56,7 @@ pub fn apply_link(
     rules: &[u16],
     entries: &mut [u16],
     tally: &mut [u32],
+    disputes: &mut [u16],
     rows: &mut [u64; 256],
     order: &mut [u8; 128],
     reach: &mut [u64; 256],
@@ -65,10 +66,10 @@ pub fn apply_link(
     parent: Kind,
     adding: bool,
 ) -> u16
-    requires { ⌜ (Known n m (lent (now links) (now rules) (now entries) (now tally)) (now rows) (now order) (now reach) (now ruled)) × (caller .0 < callers) × (child .0 < n) × (parent .0 < n) ⌝ }
+    requires { ⌜ (Known n m (lent (now links) (now rules) (now entries) (now tally) (now disputes)) (now rows) (now order) (now reach) (now ruled)) × (caller .0 < callers) × (child .0 < n) × (parent .0 < n) ⌝ }
     requires { ⌜ Acyclic n (upOf n (linked n (now links) (child .0) (parent .0) adding)) ⌝ }
-    ensures { λ r. ⌜ leaves (given r) (lent (now (links .exit)) (now (rules .entry)) (now (entries .exit)) (now (tally .exit)))
-        ≡ accepted n m (lent (now (links .entry)) (now (rules .entry)) (now (entries .entry)) (now (tally .entry))) (caller .0)
+    ensures { λ r. ⌜ leaves (given r) (lent (now (links .exit)) (now (rules .entry)) (now (entries .exit)) (now (tally .exit)) (now (disputes .exit)))
+        ≡ accepted n m (lent (now (links .entry)) (now (rules .entry)) (now (entries .entry)) (now (tally .entry)) (now (disputes .entry))) (caller .0)
         (linked n (now (links .entry)) (child .0) (parent .0) adding) (now (rules .entry)) ⌝ }
 {
     let kinds = n as usize;
@@ -96,6 +97,7 @@ pub fn apply_link(
         child,
         rules,
         entries,
+        disputes,
     );
     count_edit(tally, caller);
     count

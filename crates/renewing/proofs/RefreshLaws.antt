@@ -2,7 +2,7 @@
 --     Replaced                          the places below i have the new numbers, and count of them had others: the invariant of a loop. The whole
 --                                       table is taken as one row
 --     replaced-more, replaced-all       one more place has, by a store; all places have
---     refresh-done                      the entries are replaced by the lookups
+--     refresh-done                      the entries are replaced by the lookups, and the dispute counts are those of the lookups
 --     refresh-refused, refresh-unsound  refusals 1 and 5
 -- Assumes nothing.
 use mathlib.Core.Path.{_≡_, refl, _∙_, ap}
@@ -16,7 +16,7 @@ use lib.Seq.{ext-getD}
 use Rattle.settling.specs.Settled.{Written}
 use Rattle.settling.proofs.Writing.{written-store}
 use Rattle.tables.specs.Reply.{refused, given}
-use Rattle.tables.specs.Tables.{Tables, lent, shaped, upOf, entriesOf, links-right, differ, differing}
+use Rattle.tables.specs.Tables.{Tables, lent, shaped, upOf, entriesOf, links-right, disputesOf, differ, differing}
 use Rattle.tables.specs.Calls.{leaves, check, refresh}
 use Rattle.tables.proofs.TableLaws.{differing-self}
 
@@ -38,15 +38,17 @@ replaced-all {old} {new} {table} {count} size w =
     (same, omega (arith, w .counted old refl (λ j a b. refl), differing-self old, ap (differing old) same))
 
 module _ (n m : ℕ) (t : Tables) where
-  pub refresh-done : {lookups entries : List ℕ} {count : ℕ} → shaped n m t ≡ true → links-right n (t .links) ≡ true → lookups ≡ entriesOf n m (upOf n (t .links)) (t .rules)
-      → (entries ≡ lookups) × (count ≡ differing (t .entries) lookups) → leaves (given count) (lent (t .links) (t .rules) entries (t .tally)) ≡ refresh n m t
+  pub refresh-done : {lookups entries disputes : List ℕ} {count : ℕ} → shaped n m t ≡ true → links-right n (t .links) ≡ true
+      → lookups ≡ entriesOf n m (upOf n (t .links)) (t .rules) → disputes ≡ disputesOf n m lookups → (entries ≡ lookups) × (count ≡ differing (t .entries) lookups)
+      → leaves (given count) (lent (t .links) (t .rules) entries (t .tally) disputes) ≡ refresh n m t
   unfolding refresh check
-  refresh-done is good looked (written, counted) = rw (is, good, written, counted, looked) refl
+  refresh-done is good looked recounted (written, counted) = rw (is, good, written, counted, recounted, looked) refl
 
   pub refresh-refused : shaped n m t ≡ false → leaves (refused 1) t ≡ refresh n m t
   unfolding refresh check
   refresh-refused is = rw is refl
 
-  pub refresh-unsound : shaped n m t ≡ true → links-right n (t .links) ≡ false → leaves (refused 5) t ≡ refresh n m t
+  pub refresh-unsound : {disputes : List ℕ} → shaped n m t ≡ true → links-right n (t .links) ≡ false → disputes ≡ t .disputes
+      → leaves (refused 5) (lent (t .links) (t .rules) (t .entries) (t .tally) disputes) ≡ refresh n m t
   unfolding refresh check
-  refresh-unsound is bad = rw (is, bad) refl
+  refresh-unsound is bad kept = rw (is, bad, kept) refl

@@ -1,4 +1,4 @@
-// The calls that write a table anew, whatever was there: open, and refresh for the entries.
+// The calls that write a table anew, whatever was there: open, and refresh for the entries and the dispute counts.
 mod opening;
 mod refreshing;
 

@@ -1,4 +1,5 @@
 // Open: a book with no links and no rules.
+use counting::clear;
 use tables::Opened;
 use tables::Refusal;
 ghost use mathlib.Core.Path.{_≡_};
@@ -16,15 +17,6 @@ fn clear_bytes(bytes: &mut [u8])
     }
 }
 
-// Every number of 16 bits of a table becomes 0.
-fn clear_numbers(numbers: &mut [u16])
-    ensures { λ r. ⌜ now (numbers .exit) ≡ replicate (length (now (numbers .entry))) 0 ⌝ }
-{
-    for i in 0..numbers.len() {
-        numbers[i] = 0;
-    }
-}
-
 // Every number of the tally becomes 0.
 fn clear_tally(tally: &mut [u32])
     ensures { λ r. ⌜ now (tally .exit) ≡ replicate (length (now (tally .entry))) 0 ⌝ }
@@ -34,7 +26,7 @@ fn clear_tally(tally: &mut [u32])
     }
 }
 
-// All four tables become 0.
+// All five tables become 0.
 pub fn open(
     n: u16,
     m: u16,
@@ -42,16 +34,18 @@ pub fn open(
     rules: &mut [u16],
     entries: &mut [u16],
     tally: &mut [u32],
+    disputes: &mut [u16],
 ) -> Opened
-    ensures { λ r. ⌜ leaves (opened r) (lent (now (links .exit)) (now (rules .exit)) (now (entries .exit)) (now (tally .exit)))
-        ≡ openBook n m (lent (now (links .entry)) (now (rules .entry)) (now (entries .entry)) (now (tally .entry))) ⌝ }
+    ensures { λ r. ⌜ leaves (opened r) (lent (now (links .exit)) (now (rules .exit)) (now (entries .exit)) (now (tally .exit)) (now (disputes .exit)))
+        ≡ openBook n m (lent (now (links .entry)) (now (rules .entry)) (now (entries .entry)) (now (tally .entry)) (now (disputes .entry))) ⌝ }
 {
-    let shaped = asking::shape(n, m, links, rules, entries, tally);
+    let shaped = asking::shape(n, m, links, rules, entries, tally, disputes);
     if shaped {
         clear_bytes(links);
-        clear_numbers(rules);
-        clear_numbers(entries);
+        clear(rules);
+        clear(entries);
         clear_tally(tally);
+        clear(disputes);
         Opened::Done
     } else {
         Opened::Refused(Refusal::Shape)

@@ -1,4 +1,4 @@
-// Refresh: every entry becomes its lookup.
+// Refresh: every entry becomes its lookup, and every dispute count that of its mark.
 use lookups::look_up;
 use settling::put;
 use tables::Edited;
@@ -22,8 +22,8 @@ fn replace(entries: &mut [u16], lookups: &[u16]) -> u16
     count
 }
 
-// Every entry becomes its lookup. The links are judged before the first entry is written, and the lookups gathered in a
-// scratch copy. How many entries differ from before.
+// Every entry becomes its lookup, and the dispute counts follow. The links are judged before the first entry is written, and
+// the lookups gathered in a scratch copy. How many entries differ from before.
 pub fn refresh(
     n: u16,
     m: u16,
@@ -31,18 +31,27 @@ pub fn refresh(
     rules: &[u16],
     entries: &mut [u16],
     tally: &[u32],
+    disputes: &mut [u16],
 ) -> Edited
-    ensures { λ r. ⌜ leaves (edited r) (lent (now (links .entry)) (now (rules .entry)) (now (entries .exit)) (now (tally .entry)))
-        ≡ refresh n m (lent (now (links .entry)) (now (rules .entry)) (now (entries .entry)) (now (tally .entry))) ⌝ }
+    ensures { λ r. ⌜ leaves (edited r) (lent (now (links .entry)) (now (rules .entry)) (now (entries .exit)) (now (tally .entry)) (now (disputes .exit)))
+        ≡ refresh n m (lent (now (links .entry)) (now (rules .entry)) (now (entries .entry)) (now (tally .entry)) (now (disputes .entry))) ⌝ }
 {
-    let shaped = asking::shape(n, m, links, rules, entries, tally);
+    let shaped = asking::shape(n, m, links, rules, entries, tally, disputes);
     if !shaped {
         return Edited::Refused(Refusal::Shape);
     }
     let mut rows = [0u64; 256];
     let mut scratch = [0u16; 8192];
     let lookups = &mut scratch[..entries.len()];
-    let linked = look_up(n as usize, m as usize, links, rules, &mut rows, lookups);
+    let linked = look_up(
+        n as usize,
+        m as usize,
+        links,
+        rules,
+        &mut rows,
+        lookups,
+        disputes,
+    );
     if !linked {
         return Edited::Refused(Refusal::Unsound);
     }

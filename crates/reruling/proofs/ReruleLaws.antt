@@ -10,6 +10,7 @@ use Prim.Native.Nat.{ℕ, _+_, _*_, _<_}
 use lib.Arith.{digits-lt}
 use lib.Dec.{eqb}
 use lib.ListN.{length, set, length-set}
+use Rattle.counting.specs.Counting.{Counted}
 use Rattle.relation.specs.Bit.{bit}
 use Rattle.relation.specs.First.{First}
 use Rattle.deciding.specs.Deciding.{Prepared}
@@ -40,6 +41,7 @@ module _ (n m : ℕ) {rules entries : List ℕ} (s : Sized n m rules entries) (k
       (prepared-set m rules kind mark handling mark-in n (s .rules-size) rows order reach ruled new place within is p
       (λ before here. changed (not (eqb handling 0)) here before) (λ b. refl) (λ b. refl) (r .long) (r .bits))
 
-  pub rule-applied : {caller : ℕ} {up : ℕ → ℕ → Bool} {new before tally : List ℕ} {count : ℕ} → Settled n m mark (mark + 1) up (set rules i handling) entries new count
-      → tally ≡ tallied caller before → Applied n m caller kind mark up (stored m rules kind mark handling) (set rules i handling) entries new before tally count
-  rule-applied settled counted = record { rule = rw at refl; settled = rw at at settled; counted = counted }
+  pub rule-applied : {caller : ℕ} {up : ℕ → ℕ → Bool} {new before tally disputes : List ℕ} {count : ℕ} → Settled n m mark (mark + 1) up (set rules i handling) entries new count
+      → Counted m new disputes → tally ≡ tallied caller before
+      → Applied n m caller kind mark up (stored m rules kind mark handling) (set rules i handling) entries new before tally disputes count
+  rule-applied settled counts counted = record { rule = rw at refl; settled = rw at at settled; counted = counted; counts = counts }

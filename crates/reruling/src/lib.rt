@@ -12,6 +12,7 @@ ghost use mathlib.Core.Bool.{not};
 ghost use Prim.Native.Nat.{_<_};
 ghost use lib.Dec.{eqb};
 ghost use lib.ListN.{length};
+ghost use Rattle.counting.specs.Counting.{Counted};
 ghost use Rattle.relation.specs.Bit.{bit};
 ghost use Rattle.deciding.specs.Deciding.{Prepared};
 ghost use Rattle.resettling.specs.Edits.{Reset};
@@ -40,6 +41,7 @@ pub fn apply_rule(
     rules: &mut [u16],
     entries: &mut [u16],
     tally: &mut [u32],
+    disputes: &mut [u16],
     rows: &[u64; 256],
     order: &[u8; 128],
     reach: &[u64; 256],
@@ -50,10 +52,10 @@ pub fn apply_rule(
     handling: u16,
 ) -> u16
     requires { ⌜ (Sized n m (now rules) (now entries)) × (length (now tally) ≡ callers) × (caller .0 < callers) × (kind .0 < n) × (mark .0 < m) ⌝ }
-    requires { ⌜ Prepared n m (now rows) (now rules) (now order) (now reach) (now ruled) ⌝ }
+    requires { ⌜ (Prepared n m (now rows) (now rules) (now order) (now reach) (now ruled)) × (Counted m (now entries) (now disputes)) ⌝ }
     requires { ⌜ RuleUntouched n m (kind .0) (mark .0) (bit (now rows)) (stored m (now rules) (kind .0) (mark .0) handling) (now entries) ⌝ }
     ensures { λ r. ⌜ Applied n m (caller .0) (kind .0) (mark .0) (bit (now (rows .entry))) (stored m (now (rules .entry)) (kind .0) (mark .0) handling) (now (rules .exit))
-        (now (entries .entry)) (now (entries .exit)) (now (tally .entry)) (now (tally .exit)) r ⌝ }
+        (now (entries .entry)) (now (entries .exit)) (now (tally .entry)) (now (tally .exit)) (now (disputes .exit)) r ⌝ }
 {
     rules[place(kind, mark, m)] = handling;
     rerule(ruled, mark, next(reach, kind.0 as usize, 0), handling);
@@ -68,6 +70,7 @@ pub fn apply_rule(
         mark,
         rules,
         entries,
+        disputes,
     );
     count_edit(tally, caller);
     count

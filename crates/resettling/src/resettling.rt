@@ -1,4 +1,4 @@
-// The entries after a change: the kinds that it can touch are found by the walk down the links, and settled.
+// The entries after a change, and their dispute counts: the kinds that it can touch are found by the walk down the links, and settled.
 use crate::stops::own_rules;
 use closing::turn;
 use inheritance::Kind;
@@ -7,6 +7,7 @@ use propagation::touched;
 use settling::settle;
 ghost use mathlib.Core.Bool.{false};
 ghost use Prim.Native.Nat.{_+_, _<_};
+ghost use Rattle.counting.specs.Counting.{Counted};
 ghost use Rattle.propagation.specs.Spread.{stop};
 ghost use Rattle.relation.specs.Bit.{bit};
 ghost use Rattle.deciding.specs.Deciding.{Prepared};
@@ -30,11 +31,13 @@ fn resettle(
     e: Kind,
     rules: &[u16],
     entries: &mut [u16],
+    disputes: &mut [u16],
 ) -> u16
-    requires { ⌜ (Sized n m (now rules) (now entries)) × (MarkRange m lo hi) × (e .0 < n) ⌝ }
+    requires { ⌜ (Sized n m (now rules) (now entries)) × (MarkRange m lo hi) × (e .0 < n) × (Counted m (now entries) (now disputes)) ⌝ }
     requires { ⌜ Prepared n m (now rows) (now rules) (now order) (now reach) (now ruled) ⌝ }
     requires { ⌜ Untouched n m lo hi (bit (now rows)) (stop (now stops)) (e .0) (now rules) (now entries) ⌝ }
-    ensures { λ k. ⌜ Settled n m lo hi (bit (now (rows .entry))) (now (rules .entry)) (now (entries .entry)) (now (entries .exit)) k ⌝ }
+    ensures { λ k. ⌜ (Settled n m lo hi (bit (now (rows .entry))) (now (rules .entry)) (now (entries .entry)) (now (entries .exit)) k)
+        × (Counted m (now (entries .exit)) (now (disputes .exit))) ⌝ }
 {
     let mut children = [0u64; 256];
     turn(rows, n, &mut children);
@@ -53,6 +56,7 @@ fn resettle(
         &visited,
         rules,
         entries,
+        disputes,
     )
 }
 
@@ -68,11 +72,13 @@ pub fn resettle_rule(
     mark: Mark,
     rules: &[u16],
     entries: &mut [u16],
+    disputes: &mut [u16],
 ) -> u16
-    requires { ⌜ (Sized n m (now rules) (now entries)) × (kind .0 < n) × (mark .0 < m) ⌝ }
+    requires { ⌜ (Sized n m (now rules) (now entries)) × (kind .0 < n) × (mark .0 < m) × (Counted m (now entries) (now disputes)) ⌝ }
     requires { ⌜ Prepared n m (now rows) (now rules) (now order) (now reach) (now ruled) ⌝ }
     requires { ⌜ Untouched n m (mark .0) (mark .0 + 1) (bit (now rows)) (ownOf m (now rules) (mark .0)) (kind .0) (now rules) (now entries) ⌝ }
-    ensures { λ k. ⌜ Settled n m (mark .0) (mark .0 + 1) (bit (now (rows .entry))) (now (rules .entry)) (now (entries .entry)) (now (entries .exit)) k ⌝ }
+    ensures { λ k. ⌜ (Settled n m (mark .0) (mark .0 + 1) (bit (now (rows .entry))) (now (rules .entry)) (now (entries .entry)) (now (entries .exit)) k)
+        × (Counted m (now (entries .exit)) (now (disputes .exit))) ⌝ }
 {
     let mut stops = [0u8; 128];
     own_rules(rules, n, m, mark, &mut stops);
@@ -90,6 +96,7 @@ pub fn resettle_rule(
         kind,
         rules,
         entries,
+        disputes,
     )
 }
 
@@ -104,11 +111,13 @@ pub fn resettle_link(
     child: Kind,
     rules: &[u16],
     entries: &mut [u16],
+    disputes: &mut [u16],
 ) -> u16
-    requires { ⌜ (Sized n m (now rules) (now entries)) × (child .0 < n) ⌝ }
+    requires { ⌜ (Sized n m (now rules) (now entries)) × (child .0 < n) × (Counted m (now entries) (now disputes)) ⌝ }
     requires { ⌜ Prepared n m (now rows) (now rules) (now order) (now reach) (now ruled) ⌝ }
     requires { ⌜ Untouched n m 0 m (bit (now rows)) (λ _. false) (child .0) (now rules) (now entries) ⌝ }
-    ensures { λ k. ⌜ Settled n m 0 m (bit (now (rows .entry))) (now (rules .entry)) (now (entries .entry)) (now (entries .exit)) k ⌝ }
+    ensures { λ k. ⌜ (Settled n m 0 m (bit (now (rows .entry))) (now (rules .entry)) (now (entries .entry)) (now (entries .exit)) k)
+        × (Counted m (now (entries .exit)) (now (disputes .exit))) ⌝ }
 {
     let stops = [0u8; 128];
     resettle(
@@ -124,5 +133,6 @@ pub fn resettle_link(
         child,
         rules,
         entries,
+        disputes,
     )
 }

@@ -89,12 +89,13 @@ module _ (n m : ℕ) (t : Tables) (kind mark handling : ℕ) where
       unfolding ruleEdit check
       rule-absent e = rw (k .is-sound, ← at, e) refl
 
-      pub rule-done : {rules entries tally : List ℕ} {count : ℕ} → (eqb handling 0 && eqb (getD (t .rules) i 0) 0) ≡ false
-          → Applied n m by kind mark (bit rows) (stored m (t .rules) kind mark handling) rules (t .entries) entries (t .tally) tally count
-          → leaves (given count) (lent (t .links) rules entries tally) ≡ ruleEdit n m t by kind mark handling
+      pub rule-done : {rules entries tally disputes : List ℕ} {count : ℕ} → (eqb handling 0 && eqb (getD (t .rules) i 0) 0) ≡ false
+          → Applied n m by kind mark (bit rows) (stored m (t .rules) kind mark handling) rules (t .entries) entries (t .tally) tally disputes count
+          → leaves (given count) (lent (t .links) rules entries tally disputes) ≡ ruleEdit n m t by kind mark handling
       unfolding ruleEdit check
       rule-done e a =
           let there : (eqb handling 0 && eqb (getD (t .rules) (kind * m + mark) 0) 0) ≡ false = rw at at e in
           rw (k .is-sound, there, a .rule, a .counted)
-          (given-accepted n m t by (t .links) (stored m (t .rules) kind mark handling) rows (has k .sizes .kinds) (k .loaded) (acyclic k)
-          (rule-settled n m (bit rows) (t .rules) (t .entries) (has k .sizes .entries-size) (acyclic k) (looked k) kind mark handling mark-in (a .settled)))
+          (given-accepted n m t by (t .links) (stored m (t .rules) kind mark handling) rows (has k .lengths) (k .loaded) (acyclic k)
+          (rule-settled n m (bit rows) (t .rules) (t .entries) (has k .sizes .entries-size) (acyclic k) (looked k) kind mark handling mark-in (a .settled))
+          (a .counts))

@@ -28,14 +28,15 @@ fn edit_rule(
     rules: &mut [u16],
     entries: &mut [u16],
     tally: &mut [u32],
+    disputes: &mut [u16],
     caller: Caller,
     kind: Kind,
     mark: Mark,
     handling: u16,
 ) -> Edited
-    requires { ⌜ (shaped n m (lent (now links) (now rules) (now entries) (now tally)) ≡ true) × (caller .0 < callers) × (kind .0 < n) × (mark .0 < m) ⌝ }
-    ensures { λ r. ⌜ leaves (edited r) (lent (now (links .entry)) (now (rules .exit)) (now (entries .exit)) (now (tally .exit)))
-        ≡ ruleEdit n m (lent (now (links .entry)) (now (rules .entry)) (now (entries .entry)) (now (tally .entry))) (caller .0) (kind .0) (mark .0) handling ⌝ }
+    requires { ⌜ (shaped n m (lent (now links) (now rules) (now entries) (now tally) (now disputes)) ≡ true) × (caller .0 < callers) × (kind .0 < n) × (mark .0 < m) ⌝ }
+    ensures { λ r. ⌜ leaves (edited r) (lent (now (links .entry)) (now (rules .exit)) (now (entries .exit)) (now (tally .exit)) (now (disputes .exit)))
+        ≡ ruleEdit n m (lent (now (links .entry)) (now (rules .entry)) (now (entries .entry)) (now (tally .entry)) (now (disputes .entry))) (caller .0) (kind .0) (mark .0) handling ⌝ }
 {
     let mut rows = [0u64; 256];
     let mut order = [0u8; 128];
@@ -47,6 +48,7 @@ fn edit_rule(
         links,
         rules,
         entries,
+        disputes,
         &mut rows,
         &mut order,
         &mut reach,
@@ -64,6 +66,7 @@ fn edit_rule(
         rules,
         entries,
         tally,
+        disputes,
         &rows,
         &order,
         &reach,
@@ -84,16 +87,17 @@ fn change_rule(
     rules: &mut [u16],
     entries: &mut [u16],
     tally: &mut [u32],
+    disputes: &mut [u16],
     caller: Caller,
     kind: Kind,
     mark: Mark,
     handling: u16,
     adding: bool,
 ) -> Edited
-    ensures { λ r. ⌜ leaves (edited r) (lent (now (links .entry)) (now (rules .exit)) (now (entries .exit)) (now (tally .exit)))
-        ≡ ruleCall n m (lent (now (links .entry)) (now (rules .entry)) (now (entries .entry)) (now (tally .entry))) (caller .0) (kind .0) (mark .0) handling adding ⌝ }
+    ensures { λ r. ⌜ leaves (edited r) (lent (now (links .entry)) (now (rules .exit)) (now (entries .exit)) (now (tally .exit)) (now (disputes .exit)))
+        ≡ ruleCall n m (lent (now (links .entry)) (now (rules .entry)) (now (entries .entry)) (now (tally .entry)) (now (disputes .entry))) (caller .0) (kind .0) (mark .0) handling adding ⌝ }
 {
-    match ask_caller(n, m, links, rules, entries, tally, caller) {
+    match ask_caller(n, m, links, rules, entries, tally, disputes, caller) {
         CallerAsked::Refused(why) => Edited::Refused(why),
         CallerAsked::By(by) => match ask_at(n, m, kind, mark) {
             Asked::Refused(why) => Edited::Refused(why),
@@ -101,7 +105,19 @@ fn change_rule(
                 if adding & (handling == 0) {
                     Edited::Refused(Refusal::Handling)
                 } else {
-                    edit_rule(n, m, links, rules, entries, tally, by, k, j, handling)
+                    edit_rule(
+                        n,
+                        m,
+                        links,
+                        rules,
+                        entries,
+                        tally,
+                        disputes,
+                        by,
+                        k,
+                        j,
+                        handling,
+                    )
                 }
             }
         },
@@ -116,13 +132,14 @@ pub fn add_rule(
     rules: &mut [u16],
     entries: &mut [u16],
     tally: &mut [u32],
+    disputes: &mut [u16],
     caller: Caller,
     kind: Kind,
     mark: Mark,
     handling: u16,
 ) -> Edited
-    ensures { λ r. ⌜ leaves (edited r) (lent (now (links .entry)) (now (rules .exit)) (now (entries .exit)) (now (tally .exit)))
-        ≡ addRule n m (lent (now (links .entry)) (now (rules .entry)) (now (entries .entry)) (now (tally .entry))) (caller .0) (kind .0) (mark .0) handling ⌝ }
+    ensures { λ r. ⌜ leaves (edited r) (lent (now (links .entry)) (now (rules .exit)) (now (entries .exit)) (now (tally .exit)) (now (disputes .exit)))
+        ≡ addRule n m (lent (now (links .entry)) (now (rules .entry)) (now (entries .entry)) (now (tally .entry)) (now (disputes .entry))) (caller .0) (kind .0) (mark .0) handling ⌝ }
 {
     change_rule(
         n,
@@ -131,6 +148,7 @@ pub fn add_rule(
         rules,
         entries,
         tally,
+        disputes,
         caller,
         kind,
         mark,
@@ -147,12 +165,13 @@ pub fn take_rule(
     rules: &mut [u16],
     entries: &mut [u16],
     tally: &mut [u32],
+    disputes: &mut [u16],
     caller: Caller,
     kind: Kind,
     mark: Mark,
 ) -> Edited
-    ensures { λ r. ⌜ leaves (edited r) (lent (now (links .entry)) (now (rules .exit)) (now (entries .exit)) (now (tally .exit)))
-        ≡ takeRule n m (lent (now (links .entry)) (now (rules .entry)) (now (entries .entry)) (now (tally .entry))) (caller .0) (kind .0) (mark .0) ⌝ }
+    ensures { λ r. ⌜ leaves (edited r) (lent (now (links .entry)) (now (rules .exit)) (now (entries .exit)) (now (tally .exit)) (now (disputes .exit)))
+        ≡ takeRule n m (lent (now (links .entry)) (now (rules .entry)) (now (entries .entry)) (now (tally .entry)) (now (disputes .entry))) (caller .0) (kind .0) (mark .0) ⌝ }
 {
     change_rule(
         n,
@@ -161,6 +180,7 @@ pub fn take_rule(
         rules,
         entries,
         tally,
+        disputes,
         caller,
         kind,
         mark,

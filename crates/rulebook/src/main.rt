@@ -39,6 +39,7 @@ fn run(
     rules: &mut [u16; 8192],
     entries: &mut [u16; 8192],
     tally: &mut [u32; TALLIES],
+    disputes: &mut [u16; 64],
     out: &mut [u8; OUTPUT],
 ) {
     let mut state = stream::fresh();
@@ -56,6 +57,7 @@ fn run(
             rules,
             entries,
             tally,
+            disputes,
             out,
         );
         taken = write(out, state.waiting);
@@ -63,7 +65,7 @@ fn run(
         turns -= 1;
     }
     if taken {
-        let waiting = stream::close(state, carry, links, rules, entries, tally, out);
+        let waiting = stream::close(state, carry, links, rules, entries, tally, disputes, out);
         write(out, waiting);
     }
 }
@@ -74,6 +76,7 @@ fn main() {
     let mut rules = [0u16; 8192];
     let mut entries = [0u16; 8192];
     let mut tally = [0u32; TALLIES];
+    let mut disputes = [0u16; 64];
     let mut carry = [0u8; 65];
     let mut block = [0u8; BLOCK];
     let mut out = [0u8; OUTPUT];
@@ -84,6 +87,7 @@ fn main() {
         &mut rules,
         &mut entries,
         &mut tally,
+        &mut disputes,
         &mut out,
     );
 }

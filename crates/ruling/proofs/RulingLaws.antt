@@ -1,5 +1,4 @@
 -- The rows of rule kinds while they are made, place by place and mark by mark.
---     row-in                                      the m places of kind p are within a table of n kinds
 --     standing                                    kinds of the book stand in its rules
 --     ruled-none, ruled-more                      the rule kinds of no place; of one place more
 --     ruled-octet                                 of eight places more
@@ -12,7 +11,6 @@ use mathlib.Core.Logic.{by-cases}
 use mathlib.Core.Bool.{Bool, true, false, _&&_, _||_, or-assoc, or-false, and-false}
 use mathlib.Core.List.{List}
 use Prim.Native.Nat.{ℕ, _+_, _-_, _*_, _<_, _≤_, zero-le}
-use native.Mathlib.Nat.{suc-mul, mul-le-mul-right}
 use native.Mathlib.Decide.{ℕ-discrete, decLt}
 use native.Mathlib.Omega.{arith}
 use borrow.Author.Tests.{lt-ltb, le-ltb, ltb-true, lt-leb, le-leb}
@@ -23,13 +21,11 @@ use Rattle.relation.specs.Bit.{bit, on, Blank, Octet, Added}
 use Rattle.inheritance.proofs.Bools.{same-bool}
 use Rattle.relation.proofs.Bools.{one-more}
 use Rattle.tables.specs.Tables.{ownOf}
+use Rattle.tables.proofs.TableLaws.{row-in}
 use Rattle.ruling.specs.Ruling.{Ruled, Standing, Octets}
 
 same-below : (a b c d : ℕ) → (a < b → c < d) → (c < d → a < b) → ltb a b ≡ ltb c d
 same-below a b c d to from = same-bool _ _ (λ t. lt-ltb c d (to (ltb-true a b t))) (λ t. lt-ltb a b (from (ltb-true c d t)))
-
-pub row-in : (n m p : ℕ) {size : ℕ} → size ≡ n * m → p < n → p * m + m ≤ size
-row-in n m p e h = omega (arith, suc-mul p m, mul-le-mul-right m h)
 
 -- eight places at once
 module _ (q : ℕ) (bits : List ℕ) where

@@ -6,10 +6,10 @@ use mathlib.Core.List.{List, [], _∷_}
 use Prim.Native.Nat.{ℕ}
 use Prim.Native.String.{String}
 use Rattle.patterns.specs.Bytes.{bytes}
-use Rattle.inheritance.specs.Above.{above, through}
+use Rattle.inheritance.specs.Above.{above, through, count}
 use Rattle.inheritance.specs.Lookup.{lookup, within, inherit, left, least, seen, some-below, passing, meet, join}
 use Rattle.tables.specs.Books.{answerTo, editOutcome}
-use Rattle.tables.specs.Tables.{sized, sound, sound-over, bytes-right, tallied, well-linked, all-below, differing, entriesOf, entryAt, grid, listed}
+use Rattle.tables.specs.Tables.{sized, sound, sound-over, bytes-right, tallied, well-linked, all-below, differing, entriesOf, entryAt, grid, listed, disputesAt, disputesOf}
 use Rattle.tables.specs.Calls.{openBook, addRule, addLink, takeLink, find, accepted, check, findingOf}
 use Rattle.patterns.specs.Decimal.{numberAt, isDigit, further, digits, lastDigits, width}
 use Rattle.forms.specs.Forms.{formOf, firstFit, shapes}
@@ -51,5 +51,5 @@ outputs [] = []
 outputs (c ∷ cs) = bytes (c .answer) ∷ outputs cs
 
 pub cases-hold : answers start (inputs cases) ≡ outputs cases
-unfolding answers lineOf turnOf carries answerTo editOutcome formOf firstFit shapes fits numberAt isDigit further filled digits lastDigits width openBook addRule addLink takeLink find accepted check findingOf sized sound sound-over bytes-right tallied well-linked all-below differing entriesOf entryAt grid listed above through lookup within inherit left least seen some-below passing meet join
+unfolding answers lineOf turnOf carries answerTo editOutcome formOf firstFit shapes fits numberAt isDigit further filled digits lastDigits width openBook addRule addLink takeLink find accepted check findingOf sized sound sound-over bytes-right tallied well-linked all-below differing entriesOf entryAt grid listed disputesAt disputesOf count above through lookup within inherit left least seen some-below passing meet join
 cases-hold = refl

@@ -95,7 +95,7 @@ Right b = (b .n ≡ 0) ⊎ Consistent (b .n) (b .m) (b .tables)
 
 module _ (b : Book) (right : Right b) where
   sound-or-none : shaped (b .n) (b .m) (b .tables) ≡ true → sound (b .n) (b .m) (b .tables) ≡ true
-  sound-or-none fits = ⊎-elim (λ none. absurd (omega (arith, sized-facts 1 1 (b .n) (b .m) _ _ _ _ fits .kinds .0))) (λ s. consistent-sound s) right
+  sound-or-none fits = ⊎-elim (λ none. absurd (omega (arith, sized-facts 1 1 (b .n) (b .m) _ _ _ _ _ fits .kinds .0))) (λ s. consistent-sound s) right
 
   -- a call of any form but open
   module _ (request : Request) (alone : (k j : ℕ) → request ≢ Request.parties k j) where

@@ -41,13 +41,14 @@ parts-lengths n m t room u s =
       rules-length = length-take-le (n * m) (t .rules) (omega (arith, room .rules-length)) ∙ omega arith;
       entries-length = length-take-le (n * m) (t .entries) (omega (arith, room .entries-length)) ∙ omega arith;
       tally-length = room .tally-length;
+      disputes-length = length-take-le m (t .disputes) (omega (arith, room .disputes-length, s .marks .1)) ∙ omega arith;
     }
 
 same-shape : (n m : ℕ) (t : Tables) → Room t → shaped n m (parts n m t) ≡ shaped n m (zeros n m)
 same-shape n m t room =
     same-bool (shaped n m (parts n m t)) (shaped n m (zeros n m))
-    (λ is. facts-sized 1 1 n m _ _ _ _ (zeros-lengths n m (parts n m t) (sized-facts 1 1 n m _ _ _ _ is)))
-    (λ is. facts-sized 1 1 n m _ _ _ _ (parts-lengths n m t room (zeros n m) (sized-facts 1 1 n m _ _ _ _ is)))
+    (λ is. facts-sized 1 1 n m _ _ _ _ _ (zeros-lengths n m (parts n m t) (sized-facts 1 1 n m _ _ _ _ _ is)))
+    (λ is. facts-sized 1 1 n m _ _ _ _ _ (parts-lengths n m t room (zeros n m) (sized-facts 1 1 n m _ _ _ _ _ is)))
 
 -- open does to the parts what it does to tables of zeros
 abbrev Opens : (n m : ℕ) → Tables → Type 0
@@ -82,14 +83,14 @@ open-or-other pair n m t Request.refresh = inr (record { not-fresh = refl; size 
 
 -- ---- A call
 
-module _ {call : Call} {a b : ℕ} {t : Tables} (l : Lending (call .n) (call .m) t a b) {answer : Answer} {links rules entries tally : List ℕ}
-    (done : Carried call (taken l) answer (lent links rules entries tally)) (kept : Kept l (lent links rules entries tally))
+module _ {call : Call} {a b d : ℕ} {t : Tables} (l : Lending (call .n) (call .m) t a b d) {answer : Answer} {links rules entries tally disputes : List ℕ}
+    (done : Carried call (taken l) answer (lent links rules entries tally disputes)) (kept : Kept l (lent links rules entries tally disputes))
     {out out-after : List ℕ} {k : ℕ} (printed : Printed (printedAnswer (call .n) (call .m) answer) out k out-after) where
   abbrev part : Tables
-  part = lent links rules entries tally
+  part = lent links rules entries tally disputes
 
   abbrev after : Tables
-  after = lent (links ++ drop a (t .links)) (rules ++ drop b (t .rules)) (entries ++ drop b (t .entries)) tally
+  after = lent (links ++ drop a (t .links)) (rules ++ drop b (t .rules)) (entries ++ drop b (t .entries)) tally (disputes ++ drop d (t .disputes))
 
   abbrev lentParts : Tables
   lentParts = parts (call .n) (call .m) t

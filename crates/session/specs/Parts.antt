@@ -21,7 +21,7 @@ Room t = LengthsOf 128 64 t
 
 -- the leading parts; a table that is too short is lent whole, and the calls refuse it
 abbrev pub parts : (n m : ℕ) → Tables → Tables
-parts n m t = lent (take (n * n) (t .links)) (take (n * m) (t .rules)) (take (n * m) (t .entries)) (t .tally)
+parts n m t = lent (take (n * n) (t .links)) (take (n * m) (t .rules)) (take (n * m) (t .entries)) (t .tally) (take m (t .disputes))
 
 abbrev pub bookIn : (n m : ℕ) → Tables → Book
 bookIn n m t = record { n = n; m = m; tables = parts n m t }
@@ -32,6 +32,7 @@ front part whole = part ++ drop (length part) whole
 abbrev pub putIn : (part whole : Tables) → Tables
 putIn part whole =
     lent (front (part .links) (whole .links)) (front (part .rules) (whole .rules)) (front (part .entries) (whole .entries)) (part .tally)
+    (front (part .disputes) (whole .disputes))
 
 abbrev pub ofSize : (n m length : ℕ) → Turned
 ofSize n m length = record { n = n; m = m; length = length }

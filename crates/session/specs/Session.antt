@@ -16,7 +16,7 @@ use Rattle.tables.specs.Tables.{lent}
 use Rattle.session.specs.Line.{Book, lineOf}
 
 abbrev pub start : Book
-start = record { n = 0; m = 0; tables = lent [] [] [] (replicate callers 0) }
+start = record { n = 0; m = 0; tables = lent [] [] [] (replicate callers 0) [] }
 
 abbrev pub bookAfter : Book → List (List ℕ) → Book
 bookAfter b lines = run (λ line book. lineOf book line .book) lines b

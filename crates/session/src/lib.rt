@@ -59,23 +59,26 @@ fn carry(
     rules: &mut [u16],
     entries: &mut [u16],
     tally: &mut [u32],
+    disputes: &mut [u16],
     out: &mut [u8; 64],
 ) -> Turned
-    requires { ⌜ Room (lent (now links) (now rules) (now entries) (now tally)) ⌝ }
+    requires { ⌜ Room (lent (now links) (now rules) (now entries) (now tally) (now disputes)) ⌝ }
     requires { ⌜ OfBook n m (callOf call) ⌝ }
     ensures { λ r. ⌜ Answered (λ b. carries b (callOf call)) n m
-        (lent (now (links .entry)) (now (rules .entry)) (now (entries .entry)) (now (tally .entry)))
-        (lent (now (links .exit)) (now (rules .exit)) (now (entries .exit)) (now (tally .exit)))
+        (lent (now (links .entry)) (now (rules .entry)) (now (entries .entry)) (now (tally .entry)) (now (disputes .entry)))
+        (lent (now (links .exit)) (now (rules .exit)) (now (entries .exit)) (now (tally .exit)) (now (disputes .exit)))
         (now (out .entry)) r (now (out .exit)) ⌝ }
 {
     let a = leading(call.n, call.n, links.len());
     let b = leading(call.n, call.m, rules.len());
+    let d = least(call.m as usize, disputes.len());
     let answer = calls::carry_out(
         call,
         &mut links[..a],
         &mut rules[..b],
         &mut entries[..b],
         tally,
+        &mut disputes[..d],
     );
     let length = answers::print_answer(answer, call.n, call.m, out);
     size_after(answer, call, n, m, length)
@@ -91,15 +94,16 @@ pub fn line(
     rules: &mut [u16; 8192],
     entries: &mut [u16; 8192],
     tally: &mut [u32; TALLIES],
+    disputes: &mut [u16; 64],
     out: &mut [u8; 64],
 ) -> Turned
     ensures { λ r. ⌜ Answered (λ b. lineOf b (now (input .entry))) n m
-        (lent (now (links .entry)) (now (rules .entry)) (now (entries .entry)) (now (tally .entry)))
-        (lent (now (links .exit)) (now (rules .exit)) (now (entries .exit)) (now (tally .exit)))
+        (lent (now (links .entry)) (now (rules .entry)) (now (entries .entry)) (now (tally .entry)) (now (disputes .entry)))
+        (lent (now (links .exit)) (now (rules .exit)) (now (entries .exit)) (now (tally .exit)) (now (disputes .exit)))
         (now (out .entry)) r (now (out .exit)) ⌝ }
 {
     match call_for(forms::read(input), n, m) {
-        Wanted::Call(call) => carry(call, n, m, links, rules, entries, tally, out),
+        Wanted::Call(call) => carry(call, n, m, links, rules, entries, tally, disputes, out),
         Wanted::Bad => {
             let length = answers::print_refused(Refusal::BadForm, out);
             Turned { n, m, length }

@@ -1,5 +1,8 @@
 // Entries worked out after a change: one step of inheritance works out the row of a kind, which is written and counted, kind
 // after kind, those above a kind before it. `settle` does so for the kinds that an edit can touch, `gather` for a whole book.
+// The dispute counts follow each entry that is written.
+use counting::count_disputes;
+use counting::recount;
 use deciding::decide_entry;
 use deciding::decide_row;
 use merging::merge;
@@ -12,6 +15,7 @@ ghost use mathlib.Core.Path.{_≡_};
 ghost use Prim.Native.Nat.{_+_, _*_, _<_, _≤_};
 ghost use lib.ListN.{getD, length, set};
 ghost use Rattle.arranging.specs.Arranged.{Arranged};
+ghost use Rattle.counting.specs.Counting.{Counted};
 ghost use Rattle.relation.specs.Bit.{bit};
 ghost use Rattle.tables.specs.Step.{stepped};
 ghost use Rattle.tables.specs.Tables.{differ, Sized};
@@ -56,14 +60,41 @@ pub fn put(entries: &mut [u16], i: usize, e: u16) -> u16
     (was != e) as u16
 }
 
+// The entry of kind c for mark j is written, and the dispute count of the mark follows. 1 where it was another.
+fn put_counted(
+    m: usize,
+    c: usize,
+    j: usize,
+    e: u16,
+    entries: &mut [u16],
+    disputes: &mut [u16],
+) -> u16
+    requires { ⌜ (j < m) × (c * m + j < length (now entries)) × (Counted m (now entries) (now disputes)) ⌝ }
+    ensures { λ r. ⌜ (now (entries .exit) ≡ set (now (entries .entry)) (c * m + j) e) × (r ≡ differ (getD (now (entries .entry)) (c * m + j) 0) e) × (r ≤ 1)
+        × (Counted m (now (entries .exit)) (now (disputes .exit))) ⌝ }
+{
+    let i = c * m + j;
+    recount(disputes, j, entries[i], e);
+    put(entries, i, e)
+}
+
 // The entries of kind c become those of the row. How many were others.
-fn write_row(m: usize, lo: usize, hi: usize, c: usize, out: &[u16; 64], entries: &mut [u16]) -> u16
-    requires { ⌜ (MarkRange m lo hi) × (c * m + m ≤ length (now entries)) ⌝ }
-    ensures { λ r. ⌜ (r ≤ 64) × (Written m lo hi c (λ j. getD (now (out .entry)) j 0) (now (entries .entry)) (now (entries .exit)) r) ⌝ }
+fn write_row(
+    m: usize,
+    lo: usize,
+    hi: usize,
+    c: usize,
+    out: &[u16; 64],
+    entries: &mut [u16],
+    disputes: &mut [u16],
+) -> u16
+    requires { ⌜ (MarkRange m lo hi) × (c * m + m ≤ length (now entries)) × (Counted m (now entries) (now disputes)) ⌝ }
+    ensures { λ r. ⌜ (r ≤ 64) × (Written m lo hi c (λ j. getD (now (out .entry)) j 0) (now (entries .entry)) (now (entries .exit)) r)
+        × (Counted m (now (entries .exit)) (now (disputes .exit))) ⌝ }
 {
     let mut count = 0;
     for j in lo..hi {
-        count += put(entries, c * m + j, out[j]);
+        count += put_counted(m, c, j, out[j], entries, disputes);
     }
     count
 }
@@ -109,14 +140,16 @@ fn settle_kind(
     rules: &[u16],
     c: usize,
     entries: &mut [u16],
+    disputes: &mut [u16],
 ) -> u16
     requires { ⌜ (Sized n m (now rules) (now entries)) × (Prepared n m (now rows) (now rules) (now order) (now reach) (now ruled)) ⌝ }
-    requires { ⌜ (MarkRange m lo hi) × (c < n) ⌝ }
-    ensures { λ r. ⌜ (r ≤ 64) × (Written m lo hi c (stepped n m (bit (now (rows .entry))) (now (rules .entry)) (now (entries .entry)) c) (now (entries .entry)) (now (entries .exit)) r) ⌝ }
+    requires { ⌜ (MarkRange m lo hi) × (c < n) × (Counted m (now entries) (now disputes)) ⌝ }
+    ensures { λ r. ⌜ (r ≤ 64) × (Written m lo hi c (stepped n m (bit (now (rows .entry))) (now (rules .entry)) (now (entries .entry)) c) (now (entries .entry)) (now (entries .exit)) r)
+        × (Counted m (now (entries .exit)) (now (disputes .exit))) ⌝ }
 {
     if hi == lo + 1 {
         let e = inherit_entry(rows, order, reach, ruled, n, m, rules, entries, c, lo);
-        return put(entries, c * m + lo, e);
+        return put_counted(m, c, lo, e, entries, disputes);
     }
     let mut out = [0u16; 64];
     inherit_row(
@@ -133,12 +166,12 @@ fn settle_kind(
         c,
         &mut out,
     );
-    write_row(m, lo, hi, c, &out, entries)
+    write_row(m, lo, hi, c, &out, entries, disputes)
 }
 
 // The visited kinds' entries for the marks from lo to below hi become their lookups, where those of the other kinds
 // are theirs already: the kinds are gone through from the last place to the first, so that those above a kind come before
-// it. How many entries were others.
+// it. The dispute counts are those of the entries, before and after. How many entries were others.
 pub fn settle(
     rows: &[u64; 256],
     order: &[u8; 128],
@@ -151,23 +184,38 @@ pub fn settle(
     visited: &[u8; 128],
     rules: &[u16],
     entries: &mut [u16],
+    disputes: &mut [u16],
 ) -> u16
     requires { ⌜ (Sized n m (now rules) (now entries)) × (Prepared n m (now rows) (now rules) (now order) (now reach) (now ruled)) ⌝ }
-    requires { ⌜ (MarkRange m lo hi) × (Awaiting n m lo hi (bit (now rows)) (now rules) (now visited) (now entries)) ⌝ }
-    ensures { λ k. ⌜ Settled n m lo hi (bit (now (rows .entry))) (now (rules .entry)) (now (entries .entry)) (now (entries .exit)) k ⌝ }
+    requires { ⌜ (MarkRange m lo hi) × (Awaiting n m lo hi (bit (now rows)) (now rules) (now visited) (now entries)) × (Counted m (now entries) (now disputes)) ⌝ }
+    ensures { λ k. ⌜ (Settled n m lo hi (bit (now (rows .entry))) (now (rules .entry)) (now (entries .entry)) (now (entries .exit)) k)
+        × (Counted m (now (entries .exit)) (now (disputes .exit))) ⌝ }
 {
     let mut count = 0;
     for t in 0..n {
         let c = order[n - 1 - t] as usize;
         if visited[c] == 1 {
-            count += settle_kind(rows, order, reach, ruled, n, m, lo, hi, rules, c, entries);
+            count += settle_kind(
+                rows,
+                order,
+                reach,
+                ruled,
+                n,
+                m,
+                lo,
+                hi,
+                rules,
+                c,
+                entries,
+                disputes,
+            );
         }
     }
     count
 }
 
-// The lookups are written, whatever was there: every kind counts as visited. The rows have the links, the kinds stand in the
-// order, and reach has the places of the kinds at or above each.
+// The lookups and their dispute counts are written, whatever was there: what was there is counted first, and every kind counts
+// as visited. The rows have the links, the kinds stand in the order, and reach has the places of the kinds at or above each.
 pub fn gather(
     rows: &[u64; 256],
     order: &[u8; 128],
@@ -176,10 +224,12 @@ pub fn gather(
     m: usize,
     rules: &[u16],
     lookups: &mut [u16],
+    counts: &mut [u16],
 )
-    requires { ⌜ (Sized n m (now rules) (now lookups)) × (Arranged n (now rows) (now order) (now reach)) ⌝ }
-    ensures { λ _. ⌜ LookupsGathered n m (now (rows .entry)) (now (rules .entry)) (now (lookups .exit)) ⌝ }
+    requires { ⌜ (Sized n m (now rules) (now lookups)) × (Arranged n (now rows) (now order) (now reach)) × (1 ≤ m) × (length (now counts) ≡ m) ⌝ }
+    ensures { λ _. ⌜ LookupsGathered n m (now (rows .entry)) (now (rules .entry)) (now (lookups .exit)) (now (counts .exit)) ⌝ }
 {
+    count_disputes(n, m, lookups, counts);
     let mut ruled = [0u64; 256];
     rule_rows(rules, n, m, order, &mut ruled);
     let visited = [1u8; 128];
@@ -195,5 +245,6 @@ pub fn gather(
         &visited,
         rules,
         lookups,
+        counts,
     );
 }

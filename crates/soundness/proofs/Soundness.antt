@@ -2,24 +2,28 @@
 --     rows-links, links-rows             rows that are loaded have the links
 --     bytes-wrong, bytes-tested          what the test of the bytes says where it fails, and where it holds
 --     linked-bytes                       it holds where the links are right
+--     part-replicate                     a part of a list of equal numbers
 --     links-tests                        the tests of the code are those of `links-right`
---     sound-wrong, sound-right           .. and those of `sound`, where the links are wrong, and where they are right
+--     counts-tests                       .. and the comparison with what is counted is that of `count-right`
+--     sound-wrong, sound-right           .. and all are those of `sound`, where the links are wrong, and where they are right
 -- Assumes nothing.
 use mathlib.Core.Path.{_≡_, refl, sym, _∙_, ap, ap₂}
 use mathlib.Core.Bool.{Bool, true, false, _&&_, true≢false, and-eq-true-iff}
-use mathlib.Core.List.{List}
-use Prim.Native.Nat.{ℕ, _*_, _<_, _≤_}
+use mathlib.Core.List.{List, _∷_}
+use Prim.Native.Nat.{ℕ, zero, suc, _*_, _<_, _≤_}
 use native.Mathlib.Omega.{arith}
 use borrow.Author.Tests.{lt-ltb, leb-true}
-use lib.ListN.{length}
+use lib.Dec.{eqb}
+use lib.ListN.{length, getD, take, replicate}
 use Rattle.inheritance.proofs.Bools.{same-bool}
 use Rattle.arranging.specs.Arranged.{Arrangement}
 use Rattle.relation.specs.Bit.{bit}
 use Rattle.loading.specs.Loaded.{Loaded, Tested, link}
 use Rattle.tables.specs.Step.{right}
-use Rattle.tables.specs.Tables.{lent, upOf, all-below, byte-right, bytes-right, well-linked, links-right, sound-over, sound}
+use Rattle.tables.specs.Tables.{lent, upOf, all-below, byte-right, bytes-right, well-linked, links-right, count-right, disputesOf, sound-over, sound}
+use Rattle.tables.proofs.DisputeLaws.{disputes-at}
 use Rattle.tables.proofs.SoundLaws.{free-means, means-free, free-agree, right-up, sound-by-steps}
-use Rattle.tables.proofs.TableLaws.{below-true}
+use Rattle.tables.proofs.TableLaws.{below-true, below-same}
 
 -- the bytes alone
 module _ (n : ℕ) (links : List ℕ) (size : length links ≡ n * n) where
@@ -36,18 +40,32 @@ module _ (n : ℕ) (links : List ℕ) (size : length links ≡ n * n) where
   pub linked-bytes : links-right n links ≡ true → all-below (byte-right links) (length links) ≡ true
   linked-bytes is = bytes-same ∙ and-eq-true-iff (bytes-right n links) _ .0 is .0
 
--- a third test plays no part where the first two fail, and decides where they hold
-and-fails : (a b c : Bool) → false ≡ (a && b) → false ≡ (a && (b && c))
-and-fails true b c e = ap (λ (x : Bool). x && c) e
-and-fails false b c e = refl
+-- the later tests play no part where the first two fail, and decide where they hold
+and-fails : (a b c d : Bool) → false ≡ (a && b) → false ≡ (a && (b && c && d))
+and-fails true b c d e = ap (λ (x : Bool). x && c && d) e
+and-fails false b c d e = refl
 
-and-holds : (a b c : Bool) → true ≡ (a && b) → c ≡ (a && (b && c))
-and-holds true b c e = ap (λ (x : Bool). x && c) e
-and-holds false b c e = absurd (true≢false e)
+and-holds : (a b c d : Bool) → true ≡ (a && b) → (c && d) ≡ (a && (b && c && d))
+and-holds true b c d e = ap (λ (x : Bool). x && c && d) e
+and-holds false b c d e = absurd (true≢false e)
 
-pub sound-wrong : (n m : ℕ) (links rules entries tally : List ℕ) → false ≡ links-right n links → false ≡ sound n m (lent links rules entries tally)
+pub sound-wrong : (n m : ℕ) (links rules entries tally disputes : List ℕ) → false ≡ links-right n links
+    → false ≡ sound n m (lent links rules entries tally disputes)
 unfolding sound sound-over
-sound-wrong n m links rules entries tally e = and-fails (bytes-right n links) (well-linked n (upOf n links)) _ e
+sound-wrong n m links rules entries tally disputes e = and-fails (bytes-right n links) (well-linked n (upOf n links)) _ _ e
+
+-- size is not written as 64, so that `replicate size x` stays as it is
+pub part-replicate : (k size x : ℕ) → k ≤ size → take k (replicate size x) ≡ replicate k x
+part-replicate zero size x h = refl
+part-replicate (suc k) zero x h = absurd (omega arith)
+part-replicate (suc k) (suc size) x h = ap {B = List ℕ} (λ l. x ∷ l) (part-replicate k size x (omega arith))
+
+-- the counts of the code are compared as `count-right` does
+pub counts-tests : (n m : ℕ) (entries disputes : List ℕ) {counts : List ℕ} → length disputes ≡ m → counts ≡ disputesOf n m entries
+    → all-below (λ j. eqb (getD disputes j 0) (getD counts j 0)) (length disputes) ≡ all-below (count-right n m entries disputes) m
+counts-tests n m entries disputes {counts = counts} size are =
+    ap (all-below (λ j. eqb (getD disputes j 0) (getD counts j 0))) size
+    ∙ below-same _ _ m (λ j h. ap (eqb (getD disputes j 0)) (ap (λ (l : List ℕ). getD l j 0) are ∙ disputes-at n m entries j h))
 
 module _ (n : ℕ) (links rows : List ℕ) (kinds : n ≤ 128) (loaded : Loaded n links rows) where
   pub rows-links : (c p : ℕ) → c < n → p < n → bit rows c p ≡ upOf n links c p
@@ -65,10 +83,10 @@ module _ (n : ℕ) (links rows : List ℕ) (kinds : n ≤ 128) (loaded : Loaded 
     links-tests size right =
         ap₂ _&&_ (sym right ∙ bytes-same n links size) (free-tests ∙ free-agree n (bit rows) (upOf n links) rows-links)
 
-  pub sound-right : (m : ℕ) (rules entries tally : List ℕ) → length entries ≡ n * m → {r : Bool} → true ≡ links-right n links → r ≡ right n m (bit rows) rules entries
-      → r ≡ sound n m (lent links rules entries tally)
-  sound-right m rules entries tally size e q =
+  pub sound-right : (m : ℕ) (rules entries tally disputes : List ℕ) → length entries ≡ n * m → {r : Bool} → true ≡ links-right n links
+      → r ≡ (right n m (bit rows) rules entries && all-below (count-right n m entries disputes) m) → r ≡ sound n m (lent links rules entries tally disputes)
+  sound-right m rules entries tally disputes size e q =
       q
-      ∙ right-up n m (bit rows) (upOf n links) rules entries rows-links
-      ∙ and-holds (bytes-right n links) (well-linked n (upOf n links)) _ e
-      ∙ sym (sound-by-steps n m (lent links rules entries tally) size (omega arith))
+      ∙ ap (λ (b : Bool). b && all-below (count-right n m entries disputes) m) (right-up n m (bit rows) (upOf n links) rules entries rows-links)
+      ∙ and-holds (bytes-right n links) (well-linked n (upOf n links)) _ _ e
+      ∙ sym (sound-by-steps n m (lent links rules entries tally disputes) size (omega arith))

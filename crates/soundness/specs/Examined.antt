@@ -32,7 +32,7 @@ pub record LinksExamined (n : ℕ) (links rows order reach : List ℕ) (r : Bool
   pub arranged : r ≡ true → Arranged n rows order reach
   pub answer : r ≡ links-right n links
 
-pub record Examined (n m : ℕ) (links rules entries rows order reach ruled : List ℕ) (r : Bool) : Type 0 where
+pub record Examined (n m : ℕ) (links rules entries disputes rows order reach ruled : List ℕ) (r : Bool) : Type 0 where
   pub loaded : r ≡ true → Loaded n links rows
   pub prepared : r ≡ true → Prepared n m rows rules order reach ruled
-  pub answer : (tally : List ℕ) → r ≡ sound n m (lent links rules entries tally)
+  pub answer : (tally : List ℕ) → r ≡ sound n m (lent links rules entries tally disputes)

@@ -1,6 +1,7 @@
 // Soundness as code: the links are tested and the kinds arranged, and every entry is compared with one step of inheritance
-// from the entries of its kind's parents.
+// from the entries of its kind's parents. In the same pass the dispute entries are counted.
 use arranging::arrange;
+use counting::count_entry;
 use deciding::decide_row;
 use loading::load;
 use merging::merge;
@@ -11,10 +12,10 @@ use ruling::rule_rows;
 ghost use mathlib.Core.Path.{_≡_};
 ghost use Prim.Native.Nat.{_+_, _*_, _<_, _≤_};
 ghost use lib.Dec.{eqb};
-ghost use lib.ListN.{getD, length};
+ghost use lib.ListN.{getD, length, replicate};
 ghost use Rattle.relation.specs.Bit.{bit, Blank};
 ghost use Rattle.tables.specs.Step.{kind-right, right};
-ghost use Rattle.tables.specs.Tables.{all-below, byte-right, Sized};
+ghost use Rattle.tables.specs.Tables.{all-below, byte-right, disputesOf, Sized};
 ghost use Rattle.deciding.specs.Deciding.{Prepared};
 ghost use Rattle.merging.specs.Merged.{merged, given};
 ghost use Rattle.soundness.specs.Examined.{Checked, LinksExamined, Examined};
@@ -32,7 +33,7 @@ fn row_right(m: usize, entries: &[u16], c: usize, out: &[u16; 64]) -> bool
 }
 
 // The entries that kind c would have by its own rules and two rows that its parents give, x from i on and y from k on.
-// Whether they are its entries, and none says that the parents differ.
+// Whether they are its entries, and none says that the parents differ. Its dispute entries are counted in.
 fn check(
     c: usize,
     m: usize,
@@ -43,17 +44,21 @@ fn check(
     k: usize,
     entries: &[u16],
     out: &mut [u16; 64],
+    counts: &mut [u16],
 ) -> bool
     requires { ⌜ (c < 128) × (m ≤ 64) × (c * m + m ≤ length (now rules)) × (c * m + m ≤ length (now entries)) ⌝ }
-    requires { ⌜ (i + m ≤ length (now x)) × (k + m ≤ length (now y)) × (length (now out) ≡ 64) ⌝ }
-    ensures { λ r. ⌜ Checked m c (now (rules .entry)) (now (entries .entry)) (λ j. merged c (getD (now (x .entry)) (i + j) 0) (getD (now (y .entry)) (k + j) 0)) (now (out .exit)) r ⌝ }
+    requires { ⌜ (i + m ≤ length (now x)) × (k + m ≤ length (now y)) × (length (now out) ≡ 64) × (now counts ≡ disputesOf c m (now entries)) ⌝ }
+    ensures { λ r. ⌜ (Checked m c (now (rules .entry)) (now (entries .entry)) (λ j. merged c (getD (now (x .entry)) (i + j) 0) (getD (now (y .entry)) (k + j) 0)) (now (out .exit)) r)
+        × (now (counts .exit) ≡ disputesOf (c + 1) m (now (entries .entry))) ⌝ }
 {
     let kind = c as u16;
     let mut all = true;
     for j in 0..m {
         let e = own(kind, rules[c * m + j], merge(kind, x[i + j], y[k + j]));
-        all = all & ((e == entries[c * m + j]) & (e != 257 + kind));
+        let entry = entries[c * m + j];
+        all = all & ((e == entry) & (e != 257 + kind));
         out[j] = e;
+        count_entry(counts, j, entry);
     }
     all
 }
@@ -68,9 +73,11 @@ fn check_row(
     entries: &[u16],
     c: usize,
     out: &mut [u16; 64],
+    counts: &mut [u16],
 ) -> bool
-    requires { ⌜ (Sized n m (now rules) (now entries)) × (c < n) × (length (now out) ≡ 64) ⌝ }
-    ensures { λ r. ⌜ Checked m c (now (rules .entry)) (now (entries .entry)) (given m (bit (now (rows .entry))) (now (entries .entry)) c n) (now (out .exit)) r ⌝ }
+    requires { ⌜ (Sized n m (now rules) (now entries)) × (c < n) × (length (now out) ≡ 64) × (now counts ≡ disputesOf c m (now entries)) ⌝ }
+    ensures { λ r. ⌜ (Checked m c (now (rules .entry)) (now (entries .entry)) (given m (bit (now (rows .entry))) (now (entries .entry)) c n) (now (out .exit)) r)
+        × (now (counts .exit) ≡ disputesOf (c + 1) m (now (entries .entry))) ⌝ }
 {
     let first = next(rows, c, 0);
     if first < n {
@@ -86,6 +93,7 @@ fn check_row(
                 first * m,
                 entries,
                 out,
+                counts,
             );
         }
         if next(rows, c, second + 1) >= n {
@@ -99,15 +107,17 @@ fn check_row(
                 second * m,
                 entries,
                 out,
+                counts,
             );
         }
     }
     let mut all = [0u16; 64];
     merge_parents(rows, n, m, 0, m, entries, c, &mut all);
-    check(c, m, rules, &all, 0, &all, 0, entries, out)
+    check(c, m, rules, &all, 0, &all, 0, entries, out, counts)
 }
 
-// Whether the entries of kind c are what its own rules, its parents' entries and the kinds left give.
+// Whether the entries of kind c are what its own rules, its parents' entries and the kinds left give. Its dispute entries are
+// counted in.
 fn kind_right(
     rows: &[u64; 256],
     order: &[u8; 128],
@@ -119,19 +129,22 @@ fn kind_right(
     entries: &[u16],
     c: usize,
     out: &mut [u16; 64],
+    counts: &mut [u16],
 ) -> bool
     requires { ⌜ (Sized n m (now rules) (now entries)) × (Prepared n m (now rows) (now rules) (now order) (now reach) (now ruled)) ⌝ }
-    requires { ⌜ (c < n) × (length (now out) ≡ 64) ⌝ }
-    ensures { λ r. ⌜ (r ≡ kind-right n m (bit (now (rows .entry))) (now (rules .entry)) (now (entries .entry)) c) × (length (now (out .exit)) ≡ 64) ⌝ }
+    requires { ⌜ (c < n) × (length (now out) ≡ 64) × (now counts ≡ disputesOf c m (now entries)) ⌝ }
+    ensures { λ r. ⌜ (r ≡ kind-right n m (bit (now (rows .entry))) (now (rules .entry)) (now (entries .entry)) c) × (length (now (out .exit)) ≡ 64)
+        × (now (counts .exit) ≡ disputesOf (c + 1) m (now (entries .entry))) ⌝ }
 {
-    if check_row(rows, n, m, rules, entries, c, out) {
+    if check_row(rows, n, m, rules, entries, c, out, counts) {
         return true;
     }
     decide_row(order, reach, ruled, 0, m, c, out);
     row_right(m, entries, c, out)
 }
 
-// Whether every entry is what its kind's own rules, its parents' entries and the kinds left give.
+// Whether every entry is what its kind's own rules, its parents' entries and the kinds left give. The counts, which are 0, become
+// those of the dispute entries.
 fn entries_right(
     rows: &[u64; 256],
     order: &[u8; 128],
@@ -141,16 +154,42 @@ fn entries_right(
     m: usize,
     rules: &[u16],
     entries: &[u16],
+    counts: &mut [u16],
 ) -> bool
-    requires { ⌜ (Sized n m (now rules) (now entries)) × (Prepared n m (now rows) (now rules) (now order) (now reach) (now ruled)) ⌝ }
-    ensures { λ r. ⌜ r ≡ right n m (bit (now (rows .entry))) (now (rules .entry)) (now (entries .entry)) ⌝ }
+    requires { ⌜ (Sized n m (now rules) (now entries)) × (Prepared n m (now rows) (now rules) (now order) (now reach) (now ruled)) × (now counts ≡ replicate m 0) ⌝ }
+    ensures { λ r. ⌜ (r ≡ right n m (bit (now (rows .entry))) (now (rules .entry)) (now (entries .entry))) × (now (counts .exit) ≡ disputesOf n m (now (entries .entry))) ⌝ }
 {
     let mut out = [0u16; 64];
     let mut all = true;
     for c in 0..n {
-        all = all & kind_right(rows, order, reach, ruled, n, m, rules, entries, c, &mut out);
+        all = all
+            & kind_right(
+                rows,
+                order,
+                reach,
+                ruled,
+                n,
+                m,
+                rules,
+                entries,
+                c,
+                &mut out,
+                counts,
+            );
     }
     all
+}
+
+// Whether every dispute count is as it was counted.
+fn counts_right(disputes: &[u16], counts: &[u16]) -> bool
+    requires { ⌜ length (now counts) ≡ length (now disputes) ⌝ }
+    ensures { λ r. ⌜ r ≡ all-below (λ j. eqb (getD (now (disputes .entry)) j 0) (getD (now (counts .entry)) j 0)) (length (now (disputes .entry))) ⌝ }
+{
+    let mut same = true;
+    for j in 0..disputes.len() {
+        same = same & (disputes[j] == counts[j]);
+    }
+    same
 }
 
 // Whether every link byte is 0 or 1.
@@ -184,27 +223,31 @@ pub fn examine_links(
     arrange(rows, n, order, reach)
 }
 
-// Whether the tables are sound: every link byte is 0 or 1, no kind is above itself, every entry equals its lookup. If so,
-// the links are left in the rows, with the order, the kinds at or above each and the rule kinds of each mark. Rows, reach
-// and ruled were blank.
+// Whether the tables are sound: every link byte is 0 or 1, no kind is above itself, every entry equals its lookup, every
+// dispute count is that of its mark's dispute entries. If so, the links are left in the rows, with the order, the kinds at or
+// above each and the rule kinds of each mark. Rows, reach and ruled were blank.
 pub fn examine(
     n: usize,
     m: usize,
     links: &[u8],
     rules: &[u16],
     entries: &[u16],
+    disputes: &[u16],
     rows: &mut [u64; 256],
     order: &mut [u8; 128],
     reach: &mut [u64; 256],
     ruled: &mut [u64; 256],
 ) -> bool
-    requires { ⌜ (Sized n m (now rules) (now entries)) × (length (now links) ≡ n * n) ⌝ }
+    requires { ⌜ (Sized n m (now rules) (now entries)) × (length (now links) ≡ n * n) × (length (now disputes) ≡ m) ⌝ }
     requires { ⌜ (Blank (now rows)) × (length (now order) ≡ 128) × (Blank (now reach)) × (Blank (now ruled)) ⌝ }
-    ensures { λ r. ⌜ Examined n m (now (links .entry)) (now (rules .entry)) (now (entries .entry)) (now (rows .exit)) (now (order .exit)) (now (reach .exit)) (now (ruled .exit)) r ⌝ }
+    ensures { λ r. ⌜ Examined n m (now (links .entry)) (now (rules .entry)) (now (entries .entry)) (now (disputes .entry)) (now (rows .exit)) (now (order .exit)) (now (reach .exit)) (now (ruled .exit)) r ⌝ }
 {
     if !examine_links(n, links, rows, order, reach) {
         return false;
     }
     rule_rows(rules, n, m, order, ruled);
-    entries_right(rows, order, reach, ruled, n, m, rules, entries)
+    let mut scratch = [0u16; 64];
+    let counts = &mut scratch[..m];
+    let right = entries_right(rows, order, reach, ruled, n, m, rules, entries, counts);
+    right & counts_right(disputes, counts)
 }

@@ -99,7 +99,7 @@ open-short : (n m : ℕ) (t : Tables) → Opened n m (calls.openBook n m t .repl
 unfolding calls.openBook
 open-short n m t =
     check-cases 1 t (calls.leaves (given tt) (zeros n m)) (λ o. Opened n m (o .reply)) (shaped n m t) (refused-short 1)
-    (λ is. let s = sized-facts 1 1 n m _ _ _ _ is in opened-short n m (s .kinds .1) (s .marks .1))
+    (λ is. let s = sized-facts 1 1 n m _ _ _ _ _ is in opened-short n m (s .kinds .1) (s .marks .1))
 
 abbrev Short : Outcome Finding → Type 0
 Short o = length (printedFound (o .reply)) ≤ 16
@@ -111,7 +111,7 @@ find-short n m t kind mark =
     (λ is.
     check-cases 2 t _ Short (ltb kind n) (refused-short 2)
     (λ _.
-    check-cases 3 t _ Short (ltb mark m) (refused-short 3) (λ _. finding-short n _ _ (sized-facts 1 1 n m _ _ _ _ is .kinds .1))))
+    check-cases 3 t _ Short (ltb mark m) (refused-short 3) (λ _. finding-short n _ _ (sized-facts 1 1 n m _ _ _ _ _ is .kinds .1))))
 
 -- ---- A line
 

@@ -188,7 +188,7 @@ streaming (works {s = s} {t = t} {carry = carry} {block = block} done next) =
     (ap (λ (rest : List ℕ). passed (held s t) (take (s .carried) carry) block .output ++ rest) (streaming next))
 
 -- from the first block on
-pub streaming-is-session : {s : State} {links rules entries carry : List ℕ} {blocks : List (List ℕ)} {output : List ℕ} → Fresh s
-    → Streaming s (lent links rules entries (replicate callers 0)) carry blocks output → output ≡ session (flatten blocks)
-streaming-is-session {s} {links} {rules} {entries} {carry} {blocks} fresh all =
-    streaming all ∙ rw (fresh .book links rules entries, fresh .carried) (stream-is-session blocks)
+pub streaming-is-session : {s : State} {links rules entries disputes carry : List ℕ} {blocks : List (List ℕ)} {output : List ℕ} → Fresh s
+    → Streaming s (lent links rules entries (replicate callers 0) disputes) carry blocks output → output ≡ session (flatten blocks)
+streaming-is-session {s} {links} {rules} {entries} {disputes} {carry} {blocks} fresh all =
+    streaming all ∙ rw (fresh .book links rules entries disputes, fresh .carried) (stream-is-session blocks)

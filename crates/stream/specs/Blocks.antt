@@ -38,7 +38,7 @@ pub record Closed (p : Passed) (out : List ℕ) (waiting : ℕ) (after : Tables)
   pub output : Put (p .output) out 0 waiting out-after
 
 pub record Fresh (r : State) : Type 0 where
-  pub book : (links rules entries : List ℕ) → held r (lent links rules entries (replicate callers 0)) ≡ start
+  pub book : (links rules entries disputes : List ℕ) → held r (lent links rules entries (replicate callers 0) disputes) ≡ start
   pub carried : r .carried ≡ 0
 
 -- what a block or the close puts at the front of the output is written before the next block

@@ -35,13 +35,14 @@ fn answer(
     rules: &mut [u16; 8192],
     entries: &mut [u16; 8192],
     tally: &mut [u32; TALLIES],
+    disputes: &mut [u16; 64],
     out: &mut [u8],
 ) -> State
     requires { ⌜ state .waiting + 17 ≤ length (now out) ⌝ }
     ensures { λ r. ⌜ Replied
-        (lineOf (held state (lent (now (links .entry)) (now (rules .entry)) (now (entries .entry)) (now (tally .entry)))) (now (line .entry)))
+        (lineOf (held state (lent (now (links .entry)) (now (rules .entry)) (now (entries .entry)) (now (tally .entry)) (now (disputes .entry)))) (now (line .entry)))
         (state .waiting) (now (out .entry)) r
-        (lent (now (links .exit)) (now (rules .exit)) (now (entries .exit)) (now (tally .exit))) (now (out .exit)) ⌝ }
+        (lent (now (links .exit)) (now (rules .exit)) (now (entries .exit)) (now (tally .exit)) (now (disputes .exit))) (now (out .exit)) ⌝ }
 {
     let mut text = [0u8; 64];
     let turned = session::line(
@@ -52,6 +53,7 @@ fn answer(
         rules,
         entries,
         tally,
+        disputes,
         &mut text,
     );
     let whole: &[u8] = &text;
@@ -74,22 +76,32 @@ fn finish(
     rules: &mut [u16; 8192],
     entries: &mut [u16; 8192],
     tally: &mut [u32; TALLIES],
+    disputes: &mut [u16; 64],
     out: &mut [u8],
 ) -> State
     requires { ⌜ state .carried ≤ 65 ⌝ }
     requires { ⌜ state .waiting + 17 ≤ length (now out) ⌝ }
     ensures { λ r. ⌜ Replied
-        (lineOf (held state (lent (now (links .entry)) (now (rules .entry)) (now (entries .entry)) (now (tally .entry))))
+        (lineOf (held state (lent (now (links .entry)) (now (rules .entry)) (now (entries .entry)) (now (tally .entry)) (now (disputes .entry))))
         (take (state .carried) (now (carry .entry)) ++ now (part .entry)))
         (state .waiting) (now (out .entry)) r
-        (lent (now (links .exit)) (now (rules .exit)) (now (entries .exit)) (now (tally .exit))) (now (out .exit)) ⌝ }
+        (lent (now (links .exit)) (now (rules .exit)) (now (entries .exit)) (now (tally .exit)) (now (disputes .exit))) (now (out .exit)) ⌝ }
 {
     if state.carried == 0 {
-        return answer(part, state, links, rules, entries, tally, out);
+        return answer(part, state, links, rules, entries, tally, disputes, out);
     }
     let end = add(part, carry, state.carried);
     let whole: &[u8] = carry;
-    answer(&whole[..end], state, links, rules, entries, tally, out)
+    answer(
+        &whole[..end],
+        state,
+        links,
+        rules,
+        entries,
+        tally,
+        disputes,
+        out,
+    )
 }
 
 // Answers the lines that end in a block, behind what waits already, and carries the rest over.
@@ -101,15 +113,16 @@ fn lines(
     rules: &mut [u16; 8192],
     entries: &mut [u16; 8192],
     tally: &mut [u32; TALLIES],
+    disputes: &mut [u16; 64],
     out: &mut [u8],
 ) -> State
     requires { ⌜ start .carried ≤ 65 ⌝ }
     requires { ⌜ start .waiting + 17 * length (now block) ≤ length (now out) ⌝ }
     ensures { λ r. ⌜ Worked
-        (passed (held start (lent (now (links .entry)) (now (rules .entry)) (now (entries .entry)) (now (tally .entry))))
+        (passed (held start (lent (now (links .entry)) (now (rules .entry)) (now (entries .entry)) (now (tally .entry)) (now (disputes .entry))))
         (take (start .carried) (now (carry .entry))) (now (block .entry)))
         (start .waiting) (now (out .entry)) r
-        (lent (now (links .exit)) (now (rules .exit)) (now (entries .exit)) (now (tally .exit))) (now (carry .exit)) (now (out .exit)) ⌝ }
+        (lent (now (links .exit)) (now (rules .exit)) (now (entries .exit)) (now (tally .exit)) (now (disputes .exit))) (now (carry .exit)) (now (out .exit)) ⌝ }
 {
     let mut state = start;
     let mut from = 0;
@@ -123,6 +136,7 @@ fn lines(
             rules,
             entries,
             tally,
+            disputes,
             out,
         );
         from = end + 1;
@@ -143,13 +157,14 @@ pub fn work(
     rules: &mut [u16; 8192],
     entries: &mut [u16; 8192],
     tally: &mut [u32; TALLIES],
+    disputes: &mut [u16; 64],
     out: &mut [u8; OUTPUT],
 ) -> State
     ensures { λ r. ⌜ Worked
-        (passed (held state (lent (now (links .entry)) (now (rules .entry)) (now (entries .entry)) (now (tally .entry))))
+        (passed (held state (lent (now (links .entry)) (now (rules .entry)) (now (entries .entry)) (now (tally .entry)) (now (disputes .entry))))
         (take (state .carried) (now (carry .entry))) (take count (now (block .entry))))
         0 (now (out .entry)) r
-        (lent (now (links .exit)) (now (rules .exit)) (now (entries .exit)) (now (tally .exit))) (now (carry .exit)) (now (out .exit)) ⌝ }
+        (lent (now (links .exit)) (now (rules .exit)) (now (entries .exit)) (now (tally .exit)) (now (disputes .exit))) (now (carry .exit)) (now (out .exit)) ⌝ }
 {
     let whole: &[u8] = block;
     let kept: &[u8] = carry;
@@ -168,6 +183,7 @@ pub fn work(
         rules,
         entries,
         tally,
+        disputes,
         out,
     )
 }
@@ -180,13 +196,14 @@ pub fn close(
     rules: &mut [u16; 8192],
     entries: &mut [u16; 8192],
     tally: &mut [u32; TALLIES],
+    disputes: &mut [u16; 64],
     out: &mut [u8; OUTPUT],
 ) -> usize
     ensures { λ r. ⌜ Closed
-        (closed (held state (lent (now (links .entry)) (now (rules .entry)) (now (entries .entry)) (now (tally .entry))))
+        (closed (held state (lent (now (links .entry)) (now (rules .entry)) (now (entries .entry)) (now (tally .entry)) (now (disputes .entry))))
         (take (state .carried) (now (carry .entry))))
         (now (out .entry)) r
-        (lent (now (links .exit)) (now (rules .exit)) (now (entries .exit)) (now (tally .exit))) (now (out .exit)) ⌝ }
+        (lent (now (links .exit)) (now (rules .exit)) (now (entries .exit)) (now (tally .exit)) (now (disputes .exit))) (now (out .exit)) ⌝ }
 {
     let whole: &[u8] = carry;
     let carried = least(state.carried, whole.len());
@@ -199,7 +216,16 @@ pub fn close(
         carried,
         waiting: 0,
     };
-    let last = answer(&whole[..carried], begin, links, rules, entries, tally, out);
+    let last = answer(
+        &whole[..carried],
+        begin,
+        links,
+        rules,
+        entries,
+        tally,
+        disputes,
+        out,
+    );
     last.waiting
 }
 

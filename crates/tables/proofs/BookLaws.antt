@@ -1,12 +1,13 @@
 -- What holds of a book after any list of calls since it was just opened.
 --     stays-shaped, stays-sound    its tables have their lengths and are sound
+--     stays-counted                the dispute count of each mark is the number of kinds whose entry for it is 257 or more
 --     books-agree                  demand 3, between two books of the same n and m: where every place of links and of rules holds the same number in both
---                                  books, every place of entries does too
+--                                  books, every place of entries and of the dispute counts does too
 --     Consistent                   the invariant that they rest on; opened-consistent, call-consistent: an accepted open gives it, every call keeps it
 --     run-keeps                    what every step keeps, a list of steps keeps
 -- Assumes nothing.
 use mathlib.Core.Path.{_≡_, refl, sym, ap, ap₂, _∙_, subst}
-use mathlib.Core.Bool.{Bool, true, _&&_, not, false≢true, and-eq-true-iff}
+use mathlib.Core.Bool.{Bool, true, false, _&&_, not, false≢true, and-eq-true-iff}
 use mathlib.Core.List.{List, [], _∷_, _++_}
 use mathlib.Core.Logic.{by-cases}
 use Prim.Native.Nat.{ℕ, zero, suc, _+_, _*_, _<_, _≤_}
@@ -15,21 +16,23 @@ use native.Mathlib.Nat.{lt-of-le-of-lt, mul-le-mul-left, mul-lt-mul-of-pos-right
 use native.Mathlib.Numerals.{add-one}
 use native.Mathlib.Decide.{decLt}
 use borrow.Author.Tests.{ltb-true, not-true}
-use lib.Dec.{eqb, ltb}
+use lib.Dec.{eqb, leb, ltb}
 use lib.ListN.{length, getD, replicate, set, length-set, replicate-append-replicate}
 use lib.Seq.{ext-getD}
-use Rattle.inheritance.specs.Above.{Chain, link, step, Acyclic}
+use Rattle.inheritance.specs.Above.{Chain, link, step, Acyclic, one-if, count}
 use Rattle.inheritance.proofs.AboveLaws.{chainless-acyclic}
 use Rattle.inheritance.proofs.LookupLaws.{lookup-bare}
 use Rattle.tables.specs.Entry.{entryOf}
 use Rattle.tables.specs.Reply.{refused, given}
 use Rattle.tables.specs.Tables.{Tables, lent, shaped, LengthsOf, upOf, ownOf, entryAt, listed, grid, entriesOf, bytes-right, sound}
+use Rattle.tables.specs.Tables.{is-dispute, disputesAt, disputesOf}
 use Rattle.tables.specs.Calls as calls
 use Rattle.tables.specs.Calls.{zeros}
 use Rattle.tables.specs.Books.{Edit, Request, Call, editOutcome, answerTo, after, run, Agree}
 use Rattle.tables.specs.Books.Edit.{addRule, takeRule, addLink, takeLink}
 use Rattle.tables.specs.Books.Request.{openBook, edit, find, parties, inspect, refresh}
 use Rattle.tables.proofs.CallLaws.{check-given, check-holds, find-keeps, inspect-keeps}
+use Rattle.tables.proofs.DisputeLaws.{length-disputes, disputes-at}
 use Rattle.tables.proofs.EditLaws.{passed, changed-bytes, added-acyclic, taken-acyclic}
 use Rattle.tables.proofs.ShapeLaws.{sized-facts, facts-sized, shape-sized, zeros-lengths}
 use Rattle.tables.proofs.SoundLaws.{Sound, means-sound, bytes-mean, free-means, length-entriesOf}
@@ -61,7 +64,7 @@ pub record Consistent (n m : ℕ) (t : Tables) : Type 0 where
 
 module _ {n m : ℕ} {t : Tables} (s : Consistent n m t) where
   pub consistent-shaped : shaped n m t ≡ true
-  consistent-shaped = facts-sized 1 1 n m _ _ _ _ (s .lengths)
+  consistent-shaped = facts-sized 1 1 n m _ _ _ _ _ (s .lengths)
 
   pub consistent-sound : sound n m t ≡ true
   consistent-sound = means-sound n m t (shape-sized n m t (s .lengths) .entries-size) (s .right)
@@ -90,6 +93,16 @@ unfolding entriesOf entryAt
 none-yet n m up = grid-zeros _ m n λ c j.
     ap entryOf (lookup-bare n up (ownOf m (replicate (n * m) 0) j) (λ k. ap (λ (x : ℕ). not (eqb x 0)) (zeros-at (n * m) (k * m + j))) c)
 
+count-none : (f : ℕ → Bool) (k : ℕ) → ((i : ℕ) → f i ≡ false) → count f k ≡ 0
+unfolding count
+count-none f zero none = refl
+count-none f (suc k) none = omega (arith, count-none f k none, ap one-if (none k))
+
+-- entries of 0 are none of a dispute
+none-disputed : (n m : ℕ) → disputesOf n m (replicate (n * m) 0) ≡ replicate m 0
+unfolding disputesOf disputesAt
+none-disputed n m = listed-zeros _ m λ j. count-none _ n λ c. ap is-dispute (zeros-at (n * m) (c * m + j))
+
 zeros-low : (k i : ℕ) → getD (replicate k 0) i 0 ≤ 1
 zeros-low k i = rw (zeros-at k i) (omega arith)
 
@@ -104,6 +117,7 @@ zeros-consistent n m t s = record {
     bytes = λ i h. zeros-low (n * n) i;
     acyclic = chainless-acyclic n (upOf n (replicate (n * n) 0)) (λ c l. no-chain-yet n);
     entries = sym (none-yet n m (upOf n (replicate (n * n) 0)));
+    disputes = sym (none-disputed n m);
   };
 }
 
@@ -112,17 +126,18 @@ zeros-consistent n m t s = record {
 module _ (n m : ℕ) (t : Tables) (s : Consistent n m t) where
   -- a call whose n′ and m′ fit is put to the book itself
   pub same-size : (n′ m′ : ℕ) → shaped n′ m′ t ≡ true → (n′ ≡ n) × (m′ ≡ m)
-  same-size n′ m′ fits = one-size n m n′ m′ t (s .lengths) (sized-facts 1 1 n′ m′ _ _ _ _ fits)
+  same-size n′ m′ fits = one-size n m n′ m′ t (s .lengths) (sized-facts 1 1 n′ m′ _ _ _ _ _ fits)
 
-  -- entries that such a call works out anew
+  -- entries that such a call works out anew, and their dispute counts
   worked-anew : (n′ m′ : ℕ) (links rules tally : List ℕ) → shaped n′ m′ t ≡ true
       → length links ≡ length (t .links) → length rules ≡ length (t .rules) → length tally ≡ length (t .tally)
       → ((i : ℕ) → i < n′ * n′ → getD links i 0 ≤ 1) → Acyclic n′ (upOf n′ links)
-      → Consistent n m (lent links rules (entriesOf n′ m′ (upOf n′ links) rules) tally)
+      → let entries = entriesOf n′ m′ (upOf n′ links) rules in Consistent n m (lent links rules entries tally (disputesOf n′ m′ entries))
   worked-anew n′ m′ links rules tally fits same-links same-rules same-tally bytes acyclic =
       let (n-same, m-same) = same-size n′ m′ fits in
-      let size = sized-facts 1 1 n′ m′ _ _ _ _ fits in
-      let left = lent links rules (entriesOf n′ m′ (upOf n′ links) rules) tally in
+      let size = sized-facts 1 1 n′ m′ _ _ _ _ _ fits in
+      let entries = entriesOf n′ m′ (upOf n′ links) rules in
+      let left = lent links rules entries tally (disputesOf n′ m′ entries) in
       subst (λ (a : ℕ). Consistent a m left) n-same (subst (λ (b : ℕ). Consistent n′ b left) m-same (record {
         lengths = record {
           kinds = size .kinds;
@@ -131,8 +146,9 @@ module _ (n m : ℕ) (t : Tables) (s : Consistent n m t) where
           rules-length = same-rules ∙ size .rules-length;
           entries-length = omega (arith, length-entriesOf n′ m′ (upOf n′ links) rules);
           tally-length = same-tally ∙ size .tally-length;
+          disputes-length = omega (arith, length-disputes n′ m′ entries);
         };
-        right = record { bytes = bytes; acyclic = acyclic; entries = refl };
+        right = record { bytes = bytes; acyclic = acyclic; entries = refl; disputes = refl };
       }))
 
   abbrev Stays : Tables → Type 0
@@ -204,7 +220,7 @@ run-consistent n m = run-keeps after (Consistent n m) (call-consistent n m)
 
 pub opened-consistent : (n m : ℕ) (t : Tables) → calls.openBook n m t .reply ≡ given tt → Consistent n m (calls.openBook n m t .tables)
 unfolding calls.openBook
-opened-consistent n m t = check-given 1 t _ (Consistent n m) _ λ fits _. zeros-consistent n m t (sized-facts 1 1 n m _ _ _ _ fits)
+opened-consistent n m t = check-given 1 t _ (Consistent n m) _ λ fits _. zeros-consistent n m t (sized-facts 1 1 n m _ _ _ _ _ fits)
 
 module _ (n m : ℕ) (t : Tables) (opened : calls.openBook n m t .reply ≡ given tt) (cs : List Call) where
   abbrev left : Tables
@@ -219,19 +235,26 @@ module _ (n m : ℕ) (t : Tables) (opened : calls.openBook n m t .reply ≡ give
   pub stays-sound : sound n m left ≡ true
   stays-sound = consistent-sound stays
 
+  -- in numbers: an entry from 257 on is that of a dispute
+  pub stays-counted : (j : ℕ) → j < m → getD (left .disputes) j 0 ≡ count (λ k. leb 257 (getD (left .entries) (k * m + j) 0)) n
+  unfolding disputesAt
+  stays-counted j h = ap (λ (l : List ℕ). getD l j 0) (stays .right .disputes) ∙ disputes-at n m (left .entries) j h
+
 same-table : {size : ℕ} (xs ys : List ℕ) → length xs ≡ size → length ys ≡ size → Agree xs ys → xs ≡ ys
 same-table xs ys hx hy agree = ext-getD 0 xs ys (hx ∙ sym hy) (λ i _. agree i)
 
--- two such books with the same links and rules have the same entries
+-- two such books with the same links and rules have the same entries and the same dispute counts
 consistent-agree : (n m : ℕ) (a b : Tables) → Consistent n m a → Consistent n m b
-    → Agree (a .links) (b .links) → Agree (a .rules) (b .rules) → Agree (a .entries) (b .entries)
-consistent-agree n m a b s t same-links same-rules i =
+    → Agree (a .links) (b .links) → Agree (a .rules) (b .rules) → Agree (a .entries) (b .entries) × Agree (a .disputes) (b .disputes)
+consistent-agree n m a b s t same-links same-rules =
     let links = same-table (a .links) (b .links) (s .lengths .links-length) (t .lengths .links-length) same-links in
     let rules = same-table (a .rules) (b .rules) (s .lengths .rules-length) (t .lengths .rules-length) same-rules in
-    ap (λ (l : List ℕ). getD l i 0) (s .right .entries ∙ ap₂ (λ (x y : List ℕ). entriesOf n m (upOf n x) y) links rules ∙ sym (t .right .entries))
+    let entries = s .right .entries ∙ ap₂ (λ (x y : List ℕ). entriesOf n m (upOf n x) y) links rules ∙ sym (t .right .entries) in
+    let disputes = s .right .disputes ∙ ap (disputesOf n m) entries ∙ sym (t .right .disputes) in
+    (λ i. ap (λ (l : List ℕ). getD l i 0) entries, λ i. ap (λ (l : List ℕ). getD l i 0) disputes)
 
 pub books-agree :
     (n m : ℕ) (s t : Tables) → calls.openBook n m s .reply ≡ given tt → calls.openBook n m t .reply ≡ given tt → (xs ys : List Call)
     → let a = run after xs (calls.openBook n m s .tables) in let b = run after ys (calls.openBook n m t .tables) in
-    Agree (a .links) (b .links) → Agree (a .rules) (b .rules) → Agree (a .entries) (b .entries)
+    Agree (a .links) (b .links) → Agree (a .rules) (b .rules) → Agree (a .entries) (b .entries) × Agree (a .disputes) (b .disputes)
 books-agree n m s t opened-s opened-t xs ys = consistent-agree n m _ _ (stays n m s opened-s xs) (stays n m t opened-t ys)

@@ -3,6 +3,7 @@
 --     refused-…                      a refused call writes to no table
 --     find-sound                     on sound tables find gives the lookup, a rule with its handling number; so it never refuses by 10: find-never-10
 --     lowest-fails                   where not all pass, `lowest` is the lowest number that fails
+--     fault-byte, -kind, -entry, -count    the order of the faults: the first of these that is wrong, at its lowest number
 --     inspect-sound                  inspect says sound exactly if the tables are sound
 -- Assumes nothing.
 use mathlib.Core.Path.{_≡_, refl, sym, _∙_, ap}
@@ -20,7 +21,8 @@ use Rattle.inheritance.specs.Lookup.{lookup}
 use Rattle.inheritance.proofs.LookupLaws.{InRange, lookup-range}
 use Rattle.tables.specs.Entry.{entryOf}
 use Rattle.tables.specs.Reply.{refused, given, Finding, Fault}
-use Rattle.tables.specs.Tables.{Tables, shaped, upOf, ownOf, entryAt, all-below, byte-right, bytes-right, kind-free, entry-right, well-linked, sound-over, sound}
+use Rattle.tables.specs.Tables.{Tables, shaped, upOf, ownOf, entryAt, all-below, byte-right, bytes-right, kind-free, entry-right}
+use Rattle.tables.specs.Tables.{count-right, well-linked, sound-over, sound}
 use Rattle.tables.specs.Calls as calls
 use Rattle.tables.specs.Calls.{Outcome, check, leaves, findingOf, handled, lowest, firstFault, faultOf}
 use Rattle.tables.proofs.FindingLaws.{finding-none, finding-rule, finding-dispute, handled-some}
@@ -129,8 +131,8 @@ module _ (n m : ℕ) (t : Tables) (k j : ℕ) (fits : shaped n m t ≡ true) (k<
   pub entry-found : findingOf n (λ o. getD (t .rules) (o * m + j) 0) (getD (t .entries) (k * m + j) 0) ≡ given sought
   unfolding entryAt
   entry-found =
-      let shape = sized-facts 1 1 n m _ _ _ _ fits in
-      let s = sound-means n m t (omega (arith, shape .entries-length)) is-sound in
+      let shape = sized-facts 1 1 n m _ _ _ _ _ fits in
+      let s = sound-means n m t (omega (arith, shape .entries-length)) (omega (arith, shape .disputes-length)) is-sound in
       ap (findingOf n (λ o. getD (t .rules) (o * m + j) 0)) (entries-looked n m (upOf n (t .links)) (t .rules) (t .entries) (s .entries) k j k<n j<m)
       ∙ finding-entry n (shape .kinds .1) (λ o. getD (t .rules) (o * m + j) 0) (lookup n (upOf n (t .links)) (ownOf m (t .rules) j) k)
       (lookup-range n (upOf n (t .links)) (ownOf m (t .rules) j) k k<n)
@@ -161,15 +163,49 @@ lowest-fails f (suc k) e = go (all-below f k) (f k) refl refl e (lowest-fails f 
     go true false ea eb e rest = record { within = omega arith; fails = eb; first = below-true f k ea }
     go false b ea eb e rest = let r = rest ea in record { within = omega (arith, r .within); fails = r .fails; first = r .first }
 
+-- the first fault, in its order: each has the lowest number that is wrong, where nothing before it is
+module _ (n m : ℕ) (t : Tables) where
+  abbrev bytes : ℕ → Bool
+  bytes = byte-right (t .links)
+
+  abbrev kinds : ℕ → Bool
+  kinds = kind-free n (upOf n (t .links))
+
+  abbrev entries : ℕ → Bool
+  entries = entry-right n m (upOf n (t .links)) (t .rules) (t .entries)
+
+  abbrev counts : ℕ → Bool
+  counts = count-right n m (t .entries) (t .disputes)
+
+  pub fault-byte : all-below bytes (n * n) ≡ false → faultOf n m t ≡ Fault.link-byte (lowest bytes (n * n))
+  unfolding faultOf
+  fault-byte wrong = rw wrong refl
+
+  module _ (bytes-pass : all-below bytes (n * n) ≡ true) where
+    pub fault-kind : all-below kinds n ≡ false → faultOf n m t ≡ Fault.above-itself (lowest kinds n)
+    unfolding faultOf
+    fault-kind wrong = rw (bytes-pass, wrong) refl
+
+    module _ (kinds-pass : all-below kinds n ≡ true) where
+      pub fault-entry : all-below entries (n * m) ≡ false → faultOf n m t ≡ Fault.wrong-entry (lowest entries (n * m))
+      unfolding faultOf
+      fault-entry wrong = rw (bytes-pass, kinds-pass, wrong) refl
+
+      pub fault-count : all-below entries (n * m) ≡ true → all-below counts m ≡ false → faultOf n m t ≡ Fault.wrong-count (lowest counts m)
+      unfolding faultOf
+      fault-count entries-pass wrong = rw (bytes-pass, kinds-pass, entries-pass, wrong) refl
+
 module _ (n m : ℕ) (t : Tables) where
   pub inspect-sound : shaped n m t ≡ true → (calls.inspect n m t .reply ≡ given Fault.sound) ↔ (sound n m t ≡ true)
   unfolding calls.inspect check faultOf sound sound-over bytes-right well-linked
   inspect-sound fits =
       let up = upOf n (t .links) in
-      rw fits (go (all-below (byte-right (t .links)) (n * n)) (all-below (kind-free n up) n) (all-below (entry-right n m up (t .rules) (t .entries)) (n * m)) _ _ _)
+      rw fits (go (all-below (byte-right (t .links)) (n * n)) (all-below (kind-free n up) n) (all-below (entry-right n m up (t .rules) (t .entries)) (n * m))
+      (all-below (count-right n m (t .entries) (t .disputes)) m) _ _ _ _)
     where
-      go : (a b c : Bool) (byte kind entry : ℕ) → (given (firstFault a b c byte kind entry) ≡ given Fault.sound) ↔ ((a && (b && c)) ≡ true)
-      go true true true byte kind entry = (λ _. refl, λ _. refl)
-      go true true false byte kind entry = (λ e. let never : _≡_ {A = ℕ} 0 1 = cc in absurd (omega arith), λ e. absurd (false≢true e))
-      go true false c byte kind entry = (λ e. let never : _≡_ {A = ℕ} 0 1 = cc in absurd (omega arith), λ e. absurd (false≢true e))
-      go false b c byte kind entry = (λ e. let never : _≡_ {A = ℕ} 0 1 = cc in absurd (omega arith), λ e. absurd (false≢true e))
+      go : (a b c d : Bool) (byte kind entry mark : ℕ) → (given (firstFault a b c d byte kind entry mark) ≡ given Fault.sound) ↔ ((a && (b && c && d)) ≡ true)
+      go true true true true byte kind entry mark = (λ _. refl, λ _. refl)
+      go true true true false byte kind entry mark = (λ e. let never : _≡_ {A = ℕ} 0 1 = cc in absurd (omega arith), λ e. absurd (false≢true e))
+      go true true false d byte kind entry mark = (λ e. let never : _≡_ {A = ℕ} 0 1 = cc in absurd (omega arith), λ e. absurd (false≢true e))
+      go true false c d byte kind entry mark = (λ e. let never : _≡_ {A = ℕ} 0 1 = cc in absurd (omega arith), λ e. absurd (false≢true e))
+      go false b c d byte kind entry mark = (λ e. let never : _≡_ {A = ℕ} 0 1 = cc in absurd (omega arith), λ e. absurd (false≢true e))

@@ -23,14 +23,15 @@ use Rattle.tables.proofs.ShapeLaws.{sized-facts, facts-sized}
 module _ (n m : ℕ) (t : Tables) where
   pub spelled-shape : shaped-bytes n m t ≡ true → shaped n m (spelled t) ≡ true
   spelled-shape e =
-      let s = sized-facts 2 4 n m (length (t .links)) (length (t .rules)) (length (t .entries)) (length (t .tally)) e in
-      facts-sized 1 1 n m (length (t .links)) _ _ _ (record {
+      let s = sized-facts 2 4 n m (length (t .links)) (length (t .rules)) (length (t .entries)) (length (t .tally)) (length (t .disputes)) e in
+      facts-sized 1 1 n m (length (t .links)) _ _ _ _ (record {
         kinds = s .kinds;
         marks = s .marks;
         links-length = s .links-length;
         rules-length = joined-length 256 (t .rules) _ (omega arith);
         entries-length = joined-length 256 (t .entries) _ (omega arith);
         tally-length = joined-length 65536 (words16 (t .tally)) _ (joined-length 256 (t .tally) (2 * callers) (s .tally-length));
+        disputes-length = joined-length 256 (t .disputes) _ (omega arith);
       })
 
 -- the handling number of a lookup, where `rule o` is that of kind o; 0 where it is no rule

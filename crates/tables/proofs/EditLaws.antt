@@ -7,7 +7,8 @@
 --     changed-bytes                     every link byte is 0 or 1 after a link is added or taken
 --     added-acyclic, taken-acyclic      no kind is above itself after a link is added or taken
 -- Each says: only the stated place of rules or links changes; the tables are sound again; entries differ only where the edit can touch, which comes
--- out the same before and after; the count is the number of places whose entry differs; of the tally only the caller's number moves.
+-- out the same before and after; a dispute count differs only where the entry of some kind for the mark does; the count is the number of places whose
+-- entry differs; of the tally only the caller's number moves.
 -- Assumes nothing.
 use mathlib.Core.Path.{_≡_, refl, sym, _∙_, ap, subst, fun-ext}
 use mathlib.Core.Logic.{_≢_, _↔_, _⊎_, inl, inr, ⊎-elim, by-cases}
@@ -35,6 +36,7 @@ use Rattle.tables.specs.Touch.{RuleTouches, LinkTouches}
 use Rattle.tables.specs.Edit.{OnePlace, apart, Edited, RuleEdited, LinkEdited}
 use Rattle.tables.specs.Calls.{accepted, addRule, takeRule, addLink, takeLink}
 use Rattle.tables.proofs.CallLaws.{check-given}
+use Rattle.tables.proofs.DisputeLaws.{some-place}
 use Rattle.tables.proofs.ShapeLaws.{sized-facts, shape-sized}
 use Rattle.tables.proofs.SoundLaws.{Sound, sound-means, means-sound, length-entriesOf, entriesOf-at, entries-looked}
 use Rattle.tables.proofs.TableLaws.{place-split, differing-self, differing-count}
@@ -93,10 +95,11 @@ module _ (n m : ℕ) (t : Tables) (size : length (t .entries) ≡ n * m) (before
         → Edited n m caller Touches t after returned
     unfolding accepted tallied
     accepted-edits Touches counts bytes acyclic touched same-reading = record {
-      sound-after = means-sound n m after (length-entriesOf n m (upOf n links) rules) (record { bytes = bytes; acyclic = acyclic; entries = refl });
+      sound-after = means-sound n m after (length-entriesOf n m (upOf n links) rules) (record { bytes = bytes; acyclic = acyclic; entries = refl; disputes = refl });
       tally-changed = set-one (t .tally) caller _ counts;
       touched = touched;
       same-reading = same-reading;
+      recounted = λ j differ. some-place n m (t .entries) (after .entries) j (λ same. differ (ap (λ (l : List ℕ). getD l j 0) (before .disputes) ∙ same));
       counted =
           accepted-count n m t caller links rules returned is
           ∙ differing-count (t .entries) (entriesOf n m (upOf n links) rules) (size ∙ sym (length-entriesOf n m (upOf n links) rules))
@@ -255,9 +258,9 @@ pub record Passed (n m : ℕ) (t : Tables) : Type 0 where
 
 pub passed : (n m : ℕ) (t : Tables) → shaped n m t ≡ true → sound n m t ≡ true → Passed n m t
 passed n m t fits is-sound =
-    let s = sized-facts 1 1 n m _ _ _ _ fits in
+    let s = sized-facts 1 1 n m _ _ _ _ _ fits in
     let sizes = shape-sized n m t s in
-    record { lengths = s; sizes = sizes; before = sound-means n m t (sizes .entries-size) is-sound }
+    record { lengths = s; sizes = sizes; before = sound-means n m t (sizes .entries-size) (omega (arith, s .disputes-length)) is-sound }
 
 -- a caller that has a number of the tally
 numbered : {n m : ℕ} {t : Tables} {caller : ℕ} → Passed n m t → ltb caller callers ≡ true → caller < length (t .tally)

@@ -4,6 +4,7 @@ pub mod ByteLaws
 pub mod CallLaws
 pub mod CallerLaws
 pub mod ControllerLaws
+pub mod DisputeLaws
 pub mod EditLaws
 pub mod EntryLaws
 pub mod FindingLaws

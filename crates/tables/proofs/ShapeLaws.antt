@@ -23,14 +23,14 @@ pub and-iff : (a b : Bool) → ((a && b) ≡ true) ↔ ((a ≡ true) × (b ≡ t
 and-iff true b = (λ e. (refl, e), λ e. e .1)
 and-iff false b = (λ e. (e, cc), λ e. e .0)
 
-module _ (short long n m links rules entries tally : ℕ) where
-  pub sized-facts : sized short long n m links rules entries tally ≡ true → Lengths short long n m links rules entries tally
+module _ (short long n m links rules entries tally disputes : ℕ) where
+  pub sized-facts : sized short long n m links rules entries tally disputes ≡ true → Lengths short long n m links rules entries tally disputes
   unfolding sized
   sized-facts s =
       let tests = simp and-iff at s in
       omega (arith, leb-true, eqb-true)
 
-  pub facts-sized : Lengths short long n m links rules entries tally → sized short long n m links rules entries tally ≡ true
+  pub facts-sized : Lengths short long n m links rules entries tally disputes → sized short long n m links rules entries tally disputes ≡ true
   unfolding sized
   facts-sized s = simp and-iff (search (le-leb, eq-eqb, s .tally-length))
 
@@ -45,4 +45,5 @@ zeros-lengths n m t s = record {
   rules-length = length-replicate (n * m) _ ∙ omega arith;
   entries-length = length-replicate (n * m) _ ∙ omega arith;
   tally-length = refl;
+  disputes-length = length-replicate m _ ∙ omega arith;
 }

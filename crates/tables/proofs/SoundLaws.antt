@@ -8,7 +8,7 @@
 --     free-means, bytes-mean             what `well-linked` and `bytes-right` test, as facts; means-free, mean-bytes: and back
 --     acyclic-agree, free-agree, entriesOf-agree     only the links below n play a part
 --     Sound, sound-means, means-sound    what `sound` tests, as facts
---     over-by-steps, sound-by-steps      the tables are sound exactly if they are well linked and every entry follows by one step
+--     over-by-steps, sound-by-steps      the tables are sound exactly if they are well linked, every entry follows by one step and every count is right
 -- Assumes nothing.
 use mathlib.Core.Path.{_≡_, refl, sym, _∙_, ap, ap₂}
 use mathlib.Core.Bool.{Bool, true, false, _&&_, not, and-eq-true-iff}
@@ -32,8 +32,10 @@ use Rattle.inheritance.proofs.LeftLaws.{left-agree}
 use Rattle.inheritance.proofs.LookupLaws.{InRange, lookup-range, unique-by}
 use Rattle.inheritance.proofs.StepLaws.{step-same, step-keeps, lookup-step}
 use Rattle.tables.specs.Entry.{entryOf, lookupOf}
-use Rattle.tables.specs.Tables.{Tables, upOf, ownOf, entryAt, entriesOf, all-below, entry-right, bytes-right, well-linked, sound-over, sound}
+use Rattle.tables.specs.Tables.{Tables, upOf, ownOf, entryAt, entriesOf, disputesOf}
+use Rattle.tables.specs.Tables.{all-below, entry-right, count-right, bytes-right, well-linked, sound-over, sound}
 use Rattle.tables.specs.Step.{read, stepped, kind-right, right}
+use Rattle.tables.proofs.DisputeLaws.{counts-mean, mean-counts}
 use Rattle.tables.proofs.EntryLaws.{Coded, entry-lookup, coded-none, coded-rule, coded-dispute, coded-read}
 use Rattle.tables.proofs.TableLaws.{below-true, true-below, below-same, length-grid, grid-at, grid-ext}
 
@@ -135,16 +137,19 @@ module _ (n m : ℕ) (up : ℕ → ℕ → Bool) (rules : List ℕ) where
     entries-looked e c j hc hj = ap (λ (l : List ℕ). getD l (c * m + j) 0) e ∙ entriesOf-at c j hc hj
 
     module _ (size : length entries ≡ n * m) where
-      entries-true : all-below (entry-right n m up rules entries) (n * m) ≡ true → entries ≡ entriesOf n m up rules
+      pub entries-true : all-below (entry-right n m up rules entries) (n * m) ≡ true → entries ≡ entriesOf n m up rules
       entries-true e =
           ext-getD 0 entries (entriesOf n m up rules) (size ∙ sym length-entriesOf) (λ i h. eqb-true _ _ (below-true _ (n * m) e i (rw size at h)))
 
       true-entries : entries ≡ entriesOf n m up rules → all-below (entry-right n m up rules entries) (n * m) ≡ true
       true-entries e = true-below _ (n * m) (λ i h. eq-eqb _ _ (ap (λ (l : List ℕ). getD l i 0) e))
 
-      pub over-by-steps : n ≤ 256 → sound-over n m up rules entries ≡ (well-linked n up && right n m up rules entries)
+      pub over-by-steps : (disputes : List ℕ) → n ≤ 256
+          → sound-over n m up rules entries disputes ≡ (well-linked n up && right n m up rules entries && all-below (count-right n m entries disputes) m)
       unfolding sound-over
-      over-by-steps kinds = and-when (well-linked n up) _ _ (λ e. same-bool _ _ (to (free-means n up e)) (from (free-means n up e)))
+      over-by-steps disputes kinds =
+          ap (λ (b : Bool). b && all-below (count-right n m entries disputes) m)
+          (and-when (well-linked n up) _ _ (λ e. same-bool _ _ (to (free-means n up e)) (from (free-means n up e))))
         where
           and-when : (a b c : Bool) → (a ≡ true → b ≡ c) → (a && b) ≡ (a && c)
           and-when true b c same = same refl
@@ -189,17 +194,20 @@ module _ (n m : ℕ) (t : Tables) where
     pub bytes : (i : ℕ) → i < n * n → getD (t .links) i 0 ≤ 1
     pub acyclic : Acyclic n (upOf n (t .links))
     pub entries : t .entries ≡ entriesOf n m (upOf n (t .links)) (t .rules)
+    pub disputes : t .disputes ≡ disputesOf n m (t .entries)
 
   module _ (size : length (t .entries) ≡ n * m) where
-    pub sound-means : sound n m t ≡ true → Sound
+    pub sound-means : length (t .disputes) ≡ m → sound n m t ≡ true → Sound
     unfolding sound sound-over
-    sound-means e =
+    sound-means marks-size e =
         let (bytes, over) = and-eq-true-iff (bytes-right n (t .links)) _ .0 e in
-        let (free, right) = and-eq-true-iff (well-linked n (upOf n (t .links))) _ .0 over in
+        let (before-counts, counts) = and-eq-true-iff _ (all-below (count-right n m (t .entries) (t .disputes)) m) .0 over in
+        let (free, right) = and-eq-true-iff (well-linked n (upOf n (t .links))) _ .0 before-counts in
         record {
           bytes = bytes-mean n (t .links) bytes;
           acyclic = free-means n (upOf n (t .links)) free;
           entries = entries-true n m (upOf n (t .links)) (t .rules) (t .entries) size right;
+          disputes = counts-mean n m (t .entries) (t .disputes) marks-size counts;
         }
 
     pub means-sound : Sound → sound n m t ≡ true
@@ -207,11 +215,16 @@ module _ (n m : ℕ) (t : Tables) where
     means-sound s =
         and-eq-true-iff _ _ .1 (
           mean-bytes n (t .links) (s .bytes),
-          and-eq-true-iff _ _ .1
-              (means-free n (upOf n (t .links)) (s .acyclic), true-entries n m (upOf n (t .links)) (t .rules) (t .entries) size (s .entries)),
+          and-eq-true-iff _ _ .1 (
+            and-eq-true-iff _ _ .1
+                (means-free n (upOf n (t .links)) (s .acyclic), true-entries n m (upOf n (t .links)) (t .rules) (t .entries) size (s .entries)),
+            mean-counts n m (t .entries) (t .disputes) (s .disputes),
+          ),
         )
 
     pub sound-by-steps : n ≤ 256
-        → sound n m t ≡ (bytes-right n (t .links) && (well-linked n (upOf n (t .links)) && right n m (upOf n (t .links)) (t .rules) (t .entries)))
+        → sound n m t ≡ (bytes-right n (t .links) && (well-linked n (upOf n (t .links)) && right n m (upOf n (t .links)) (t .rules) (t .entries)
+        && all-below (count-right n m (t .entries) (t .disputes)) m))
     unfolding sound
-    sound-by-steps kinds = ap (λ (b : Bool). bytes-right n (t .links) && b) (over-by-steps n m (upOf n (t .links)) (t .rules) (t .entries) size kinds)
+    sound-by-steps kinds =
+        ap (λ (b : Bool). bytes-right n (t .links) && b) (over-by-steps n m (upOf n (t .links)) (t .rules) (t .entries) size (t .disputes) kinds)

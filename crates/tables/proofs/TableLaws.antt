@@ -1,6 +1,7 @@
 -- The laws of the tables' definitions.
 --     below-suc, below-true, true-below, below-same     `all-below`: one more, all of them, and tests that agree
 --     length-grid, grid-at, grid-ext                    a grid has its values at its places, and a list that has them is the grid
+--     row-in                                            the m places of kind p are within a table of n kinds
 --     place-split                                       a place tells its kind and its mark
 --     differ-same, differ-le                            whether two numbers differ
 --     differing-self, differing-set                     how many places differ: none from the list itself, and after a store where none did
@@ -13,7 +14,7 @@ use mathlib.Core.Bool.{Bool, true, false, _&&_, not, and-eq-true-iff}
 use mathlib.Core.Logic.{⊎-elim}
 use mathlib.Core.List.{List, [], _∷_, _++_}
 use Prim.Native.Nat.{ℕ, zero, suc, _+_, _*_, _/_, _%_, _<_, _≤_}
-use native.Mathlib.Nat.{eq-or-lt-of-le, le-of-suc-le-suc, not-suc-le-zero, suc-mul, zero-mul, mul-zero, mod-lt, div-lt-iff-lt-mul, div-add-mod'}
+use native.Mathlib.Nat.{eq-or-lt-of-le, le-of-suc-le-suc, not-suc-le-zero, suc-mul, zero-mul, mul-zero, mul-le-mul-right, mod-lt, div-lt-iff-lt-mul, div-add-mod'}
 use native.Mathlib.Numerals.{add-one}
 use native.Mathlib.Omega.{arith}
 use borrow.Author.Tests.{eq-eqb, lt-ltb, le-ltb}
@@ -50,7 +51,7 @@ below-same f g (suc k) h = ap₂ _&&_ (below-same f g k (λ i l. h i (omega arit
 
 -- ---- the grid of a table
 
-length-listed : (f : ℕ → ℕ) (k : ℕ) → length (listed f k) ≡ k
+pub length-listed : (f : ℕ → ℕ) (k : ℕ) → length (listed f k) ≡ k
 unfolding listed
 length-listed f zero = refl
 length-listed f (suc k) = length-append (listed f k) (f k ∷ []) ∙ ap (λ (x : ℕ). x + 1) (length-listed f k) ∙ add-one k
@@ -67,7 +68,7 @@ at-front xs ys i h = List·getD-append xs ys 0 i h
 at-back : (xs ys : List ℕ) (k i : ℕ) → length xs ≡ k → getD (xs ++ ys) (k + i) 0 ≡ getD ys i 0
 at-back xs ys k i e = ap (λ (x : ℕ). getD (xs ++ ys) (x + i) 0) (sym e) ∙ getD-append-add xs ys i 0
 
-listed-at : (f : ℕ → ℕ) (k j : ℕ) → j < k → getD (listed f k) j 0 ≡ f j
+pub listed-at : (f : ℕ → ℕ) (k j : ℕ) → j < k → getD (listed f k) j 0 ≡ f j
 unfolding listed
 listed-at f zero j h = absurd (not-suc-le-zero h)
 listed-at f (suc k) j h = ⊎-elim
@@ -164,6 +165,10 @@ module _ (caller : ℕ) (tally : List ℕ) where
   length-tallied = length-set tally caller _
 
 -- ---- places
+
+-- the m places of kind p are within a table of n kinds
+pub row-in : (n m p : ℕ) {size : ℕ} → size ≡ n * m → p < n → p * m + m ≤ size
+row-in n m p e h = omega (arith, suc-mul p m, mul-le-mul-right m h)
 
 pub place-split : {m k j k′ j′ : ℕ} → j < m → j′ < m → k * m + j ≡ k′ * m + j′ → (k ≡ k′) × (j ≡ j′)
 place-split {m} {k} {j} {k′} {j′} hj hj′ e =

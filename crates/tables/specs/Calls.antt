@@ -14,7 +14,8 @@ use Rattle.inheritance.specs.Above.{above}
 use Rattle.inheritance.specs.Lookup.{Left}
 use Rattle.tables.specs.Reply.{Reply, refused, given, Finding, Fault, TwoKinds}
 use Rattle.tables.specs.Caller.{callers}
-use Rattle.tables.specs.Tables.{Tables, lent, shaped, upOf, ownOf, entriesOf, all-below, byte-right, kind-free, entry-right, links-right, sound, differing, tallied}
+use Rattle.tables.specs.Tables.{Tables, lent, shaped, upOf, ownOf, entriesOf, disputesOf, links-right, sound, differing, tallied}
+use Rattle.tables.specs.Tables.{all-below, byte-right, kind-free, entry-right, count-right}
 
 pub record Outcome (A : Type 0) : Type 0 where
   pub reply : Reply A
@@ -31,9 +32,9 @@ check number false t next = leaves (refused number) t
 
 -- ---- Open
 
--- all four tables are 0
+-- all five tables are 0
 abbrev pub zeros : ℕ → ℕ → Tables
-zeros n m = lent (replicate (n * n) 0) (replicate (n * m) 0) (replicate (n * m) 0) (replicate callers 0)
+zeros n m = lent (replicate (n * n) 0) (replicate (n * m) 0) (replicate (n * m) 0) (replicate callers 0) (replicate m 0)
 
 unfoldable pub openBook : (n m : ℕ) → Tables → Outcome (Unit {0})
 openBook n m t =
@@ -49,12 +50,13 @@ byCaller n m t caller next =
     (check 13 (ltb caller callers) t
     next)
 
--- an accepted edit: the links and rules are as given, every entry is its lookup, the tally counts one more of the caller; the count is of the
--- places whose entry differs from before
+-- an accepted edit: the links and rules are as given, every entry is its lookup, the tally counts one more of the caller, and the dispute
+-- counts are those of the entries; the count is of the places whose entry differs from before
 unfoldable pub accepted : (n m : ℕ) → Tables → (caller : ℕ) → (links rules : List ℕ) → Outcome ℕ
 accepted n m t caller links rules =
-    leaves (given (differing (t .entries) (entriesOf n m (upOf n links) rules)))
-    (lent links rules (entriesOf n m (upOf n links) rules) (tallied caller (t .tally)))
+    let entries = entriesOf n m (upOf n links) rules in
+    leaves (given (differing (t .entries) entries))
+    (lent links rules entries (tallied caller (t .tally)) (disputesOf n m entries))
 
 unfoldable pub addRule : (n m : ℕ) → Tables → (caller kind mark handling : ℕ) → Outcome ℕ
 addRule n m t caller kind mark handling =
@@ -149,21 +151,25 @@ unfoldable pub lowest : (ℕ → Bool) → ℕ → ℕ
 lowest f zero = 0
 lowest f (suc k) = elim (all-below f k) [ true ↦ elim (f k) [ true ↦ suc k | false ↦ k ] | false ↦ lowest f k ]
 
--- the first fault, where the tests say whether the link bytes, the kinds and the entries are right, and the numbers which is the lowest that is not
-abbrev pub firstFault : (bytes kinds entries : Bool) → (byte kind entry : ℕ) → Fault
-firstFault false kinds entries byte kind entry = Fault.link-byte byte
-firstFault true false entries byte kind entry = Fault.above-itself kind
-firstFault true true false byte kind entry = Fault.wrong-entry entry
-firstFault true true true byte kind entry = Fault.sound
+-- the first fault, where the tests say whether the link bytes, the kinds, the entries and the dispute counts are right, and the numbers which is
+-- the lowest that is not
+abbrev pub firstFault : (bytes kinds entries counts : Bool) → (byte kind entry mark : ℕ) → Fault
+firstFault false kinds entries counts byte kind entry mark = Fault.link-byte byte
+firstFault true false entries counts byte kind entry mark = Fault.above-itself kind
+firstFault true true false counts byte kind entry mark = Fault.wrong-entry entry
+firstFault true true true false byte kind entry mark = Fault.wrong-count mark
+firstFault true true true true byte kind entry mark = Fault.sound
 
--- the lowest place of a link byte above 1; the lowest kind above itself; the lowest place whose entry is not its lookup
+-- the lowest place of a link byte above 1; the lowest kind above itself; the lowest place whose entry is not its lookup; the lowest mark whose
+-- dispute count is not that of its dispute entries
 unfoldable pub faultOf : (n m : ℕ) → Tables → Fault
 faultOf n m t =
     let up = upOf n (t .links) in
     let entries-right = entry-right n m up (t .rules) (t .entries) in
+    let counts-right = count-right n m (t .entries) (t .disputes) in
     firstFault
-    (all-below (byte-right (t .links)) (n * n)) (all-below (kind-free n up) n) (all-below entries-right (n * m))
-    (lowest (byte-right (t .links)) (n * n)) (lowest (kind-free n up) n) (lowest entries-right (n * m))
+    (all-below (byte-right (t .links)) (n * n)) (all-below (kind-free n up) n) (all-below entries-right (n * m)) (all-below counts-right m)
+    (lowest (byte-right (t .links)) (n * n)) (lowest (kind-free n up) n) (lowest entries-right (n * m)) (lowest counts-right m)
 
 unfoldable pub inspect : (n m : ℕ) → Tables → Outcome Fault
 inspect n m t =
@@ -174,8 +180,8 @@ inspect n m t =
 
 unfoldable pub refresh : (n m : ℕ) → Tables → Outcome ℕ
 refresh n m t =
-    let up = upOf n (t .links) in
+    let entries = entriesOf n m (upOf n (t .links)) (t .rules) in
     check 1 (shaped n m t) t
     (check 5 (links-right n (t .links)) t
-    (leaves (given (differing (t .entries) (entriesOf n m up (t .rules))))
-    (lent (t .links) (t .rules) (entriesOf n m up (t .rules)) (t .tally))))
+    (leaves (given (differing (t .entries) entries))
+    (lent (t .links) (t .rules) entries (t .tally) (disputesOf n m entries))))

@@ -9,7 +9,7 @@ use mathlib.Core.List.{List, [], _∷_}
 use Prim.Native.Nat.{ℕ, _+_, _*_, _/_, _%_}
 use lib.ListN.{length}
 use Rattle.tables.specs.Reply.{Reply, refused, given, Finding}
-use Rattle.tables.specs.Tables.{Tables, sized}
+use Rattle.tables.specs.Tables.{Tables, lent, sized}
 use Rattle.tables.specs.Calls.{find}
 
 -- neighbours joined into one number, the first as the lower digit to the base b
@@ -35,13 +35,13 @@ bytes16 numbers = split 256 numbers
 abbrev pub bytes32 : List ℕ → List ℕ
 bytes32 numbers = split 256 (split 65536 numbers)
 
--- the tables that four tables of bytes spell
+-- the tables that five tables of bytes spell
 abbrev pub spelled : Tables → Tables
-spelled t = record { links = t .links; rules = words16 (t .rules); entries = words16 (t .entries); tally = words32 (t .tally) }
+spelled t = lent (t .links) (words16 (t .rules)) (words16 (t .entries)) (words32 (t .tally)) (words16 (t .disputes))
 
 -- n and m are in their ranges, and every table has exactly its bytes
 abbrev pub shaped-bytes : ℕ → ℕ → Tables → Bool
-shaped-bytes n m t = sized 2 4 n m (length (t .links)) (length (t .rules)) (length (t .entries)) (length (t .tally))
+shaped-bytes n m t = sized 2 4 n m (length (t .links)) (length (t .rules)) (length (t .entries)) (length (t .tally)) (length (t .disputes))
 
 abbrev pub packed : Reply Finding → ℕ
 packed (refused number) = number

@@ -31,6 +31,9 @@ pub record Edited (n m caller : ℕ) (Touches : Tables → ℕ → ℕ → Type 
   -- an entry differs only where the edit can touch it, and that comes out the same before and after
   pub touched : (k j : ℕ) → k < n → j < m → getD (t .entries) (k * m + j) 0 ≢ getD (t′ .entries) (k * m + j) 0 → Touches t k j
   pub same-reading : (k j : ℕ) → k < n → j < m → Touches t k j ↔ Touches t′ k j
+  -- a dispute count differs only at a mark where the entry of some kind does
+  pub recounted : (j : ℕ) → getD (t .disputes) j 0 ≢ getD (t′ .disputes) j 0
+      → (k : ℕ) × (k < n) × (getD (t .entries) (k * m + j) 0 ≢ getD (t′ .entries) (k * m + j) 0)
   -- the number of places kind × m + mark whose entry after it is not the entry before
   pub counted : returned ≡ count (apart (t .entries) (t′ .entries)) (n * m)
 

@@ -22,12 +22,14 @@ pub data Finding : Type 0 where
   rule : (kind handling : ℕ) → Finding
   dispute : (kind : ℕ) → Finding
 
--- sound; the place of a link byte above 1; a kind above itself; the place of an entry that is not its lookup
+-- sound; the place of a link byte above 1; a kind above itself; the place of an entry that is not its lookup; a mark whose dispute count is not
+-- that of its dispute entries
 pub data Fault : Type 0 where
   sound : Fault
   link-byte : (place : ℕ) → Fault
   above-itself : (kind : ℕ) → Fault
   wrong-entry : (place : ℕ) → Fault
+  wrong-count : (mark : ℕ) → Fault
 
 pub record TwoKinds : Type 0 where
   pub one : ℕ
@@ -71,4 +73,5 @@ inspected Inspected.Sound = given sound
 inspected (Inspected.LinkByte place) = given (link-byte place)
 inspected (Inspected.AboveItself k) = given (above-itself (k .0))
 inspected (Inspected.WrongEntry place) = given (wrong-entry place)
+inspected (Inspected.WrongCount j) = given (wrong-count (j .0))
 inspected (Inspected.Refused why) = refused (refusalNumber why)

@@ -60,12 +60,13 @@ pub enum Pair {
     Refused(Refusal),
 }
 
-// What inspect answers: sound, or the first fault. Bytes and entries are named by their places.
+// What inspect answers: sound, or the first fault. Bytes and entries are named by their places, a dispute count by its mark.
 pub enum Inspected {
     Sound,
     LinkByte(u16),
     AboveItself(Kind),
     WrongEntry(u16),
+    WrongCount(Mark),
     Refused(Refusal),
 }
 

@@ -10,10 +10,10 @@ use Rattle.asking.proofs.ask_caller.Statement.{statement}
 use Rattle.asking.proofs.ask_caller.Tie as tie
 
 abbrev start : tie.After-shape → tie.Start
-start c = c .before .before .before .before .before
+start c = c .before .before .before .before .before .before
 
 -- past the first test the tables have their lengths
-is-shaped : (c : tie.Else1) → let a = start (c .before) .args in shaped (a .n) (a .m) (lent (now (a .links)) (now (a .rules)) (now (a .entries)) (now (a .tally))) ≡ true
+is-shaped : (c : tie.Else1) → let a = start (c .before) .args in shaped (a .n) (a .m) (lent (now (a .links)) (now (a .rules)) (now (a .entries)) (now (a .tally)) (now (a .disputes))) ≡ true
 is-shaped c = sym (c .before .shape .ensures) ∙ not-false _ (c .if1 .left)
 
 returns : tie.Need-returns

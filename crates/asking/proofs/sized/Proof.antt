@@ -22,23 +22,26 @@ mul-places-2 c =
 mul-if1 : tie.Need-mul-if1
 mul-if1 c = omega (arith, product-fits (c .fits .n .fits) (c .fits .n .fits))
 
--- the last two tests decide where the others hold, and play no part where they fail
-and-taken : (x y z : Bool) → x ≡ true → (y && z) ≡ (x && y && z)
-and-taken x y z e = ap (λ (w : Bool). w && y && z) (sym e)
+mul-result-2 : tie.Need-mul-result-2
+mul-result-2 c = omega (arith, product-fits (c .before .fits .short .fits) (c .before .fits .m .fits))
 
-and-left : (x y z : Bool) → x ≡ false → x ≡ (x && y && z)
-and-left x y z e = e ∙ ap (λ (w : Bool). w && y && z) (sym e)
+-- the last three tests decide where the others hold, and play no part where they fail
+and-taken : (w x y z : Bool) → w ≡ true → (x && y && z) ≡ (w && x && y && z)
+and-taken w x y z e = ap (λ (v : Bool). v && x && y && z) (sym e)
+
+and-left : (w x y z : Bool) → w ≡ false → w ≡ (w && x && y && z)
+and-left w x y z e = e ∙ ap (λ (v : Bool). v && x && y && z) (sym e)
 
 returns : tie.Need-returns
 unfolding sized
-returns c = and-taken _ _ _ (c .if1 .taken)
+returns c = and-taken _ _ _ _ (c .if1 .taken)
 
 returns-2 : tie.Need-returns-2
 unfolding sized
 returns-2 c =
     let a = c .before .args in
-    and-left _ (eqb (a .entries) (a .short * (a .n * a .m))) (eqb (a .tally) (a .long * callers)) (c .if1 .left)
+    and-left _ (eqb (a .entries) (a .short * (a .n * a .m))) (eqb (a .tally) (a .long * callers)) (eqb (a .disputes) (a .short * a .m)) (c .if1 .left)
 
 pub sized-spec : {M : Type 1} → statement M
 sized-spec =
-    tie.close (tie.spec mul-places mul-places-2 mul-if1 (λ c. omega arith) returns returns-2)
+    tie.close (tie.spec mul-places mul-places-2 mul-if1 (λ c. omega arith) mul-result-2 returns returns-2)

@@ -6,11 +6,11 @@ use Rattle.cases.proofs.run.Statement.{statement}
 use Rattle.cases.proofs.run.Tie as tie
 
 abbrev Inv-loop : tie.InvT-loop
-Inv-loop lines links₀ rules₀ entries₀ tally₀ text₀ state₀ at₀ links rules entries tally text state at =
+Inv-loop lines links₀ rules₀ entries₀ tally₀ disputes₀ text₀ state₀ at₀ links rules entries tally disputes text state at =
     (state .from ≤ at) × (at ≤ length lines)
 
 abbrev μ-loop : tie.MeasureT-loop
-μ-loop lines links₀ rules₀ entries₀ tally₀ text₀ state₀ at₀ links rules entries tally text state at =
+μ-loop lines links₀ rules₀ entries₀ tally₀ disputes₀ text₀ state₀ at₀ links rules entries tally disputes text state at =
     length lines - at
 
 pub run-spec : {M : Type 1} → statement M

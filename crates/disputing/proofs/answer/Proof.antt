@@ -20,10 +20,10 @@ use Rattle.disputing.proofs.answer.Statement.{statement}
 use Rattle.disputing.proofs.answer.Tie as tie
 
 abbrev start : tie.After-examine → tie.Start
-start c = c .before .before .before .before .before .before .before .before
+start c = c .before .before .before .before .before .before .before .before .before
 
 abbrev book : tie.After-examine → List ℕ → Tables
-book c tally = let a = start c .args in lent (now (a .links)) (now (a .rules)) (now (a .entries)) tally
+book c tally = let a = start c .args in lent (now (a .links)) (now (a .rules)) (now (a .entries)) tally (now (a .disputes))
 
 is-found : (c : tie.Else1) → c .before .examine .result ≡ true
 is-found c = not-false _ (c .if1 .left)
@@ -43,8 +43,8 @@ is-dispute c = rw (← c .before .before .place .ensures) (omega (arith, c .if2 
 
 examine-requires : tie.Need-examine-requires
 examine-requires c κs =
-    let s = c .before .before .before .before .before .before .before in
-    ((s .pre .0 .sizes, s .pre .1), (blank-zeros 256 refl, refl, blank-zeros 256 refl, blank-zeros 256 refl))
+    let s = c .before .before .before .before .before .before .before .before in
+    ((s .pre .0 .sizes, s .pre .1, s .pre .2), (blank-zeros 256 refl, refl, blank-zeros 256 refl, blank-zeros 256 refl))
 
 returns : tie.Need-returns
 returns c tally = unsound _ _ _ _ _ (sym (c .before .examine .ensures .answer tally) ∙ not-true _ (c .if1 .taken))
@@ -72,13 +72,13 @@ returns-3 : tie.Need-returns-3
 returns-3 c tally =
     let d = c .before .before .before .before in
     let e = d .before .before .before .before in
-    let within = start e .pre .0 in
+    let (within, _, counts) = start e .pre in
     let t = book e tally in
     let is = is-sound (d .before .before .before) tally in
     disputed _ _ t _ _ is (is-dispute d)
     (rw (c .left-pair .ensures _ _ _ (e .examine .ensures .prepared (is-found (d .before .before .before))) (within .mark-below))
     (pair-parties _ _ t (within .kind-below) (within .mark-below) _ (rows-links _ _ _ (within .sizes .kinds) (e .examine .ensures .loaded (is-found (d .before .before .before))))
-    (dispute-two _ _ t (within .kind-below) (within .mark-below) (within .sizes .kinds) (within .sizes .entries-size) is (is-dispute d))))
+    (dispute-two _ _ t (within .kind-below) (within .mark-below) (within .sizes .kinds) (within .sizes .entries-size) counts is (is-dispute d))))
 
 pub answer-spec : {M : Type 1} → statement M
 answer-spec =

@@ -1,6 +1,7 @@
 -- `disputing::parties` meets its contract: it answers by the cases of `checked`, and where that lets the call through, kind, mark and
 -- tables are as `answer` requires. Assumes nothing.
 use mathlib.Core.Path.{_≡_, sym, _∙_}
+use native.Mathlib.Omega.{arith}
 use denote.Ref.{now}
 use borrow.Author.Needs.{needs}
 use Rattle.asking.specs.declared.Asked.{Asked}
@@ -13,10 +14,10 @@ use Rattle.disputing.proofs.parties.Statement.{statement}
 use Rattle.disputing.proofs.parties.Tie as tie
 
 abbrev start : tie.After-ask-place → tie.Start
-start c = c .before .before .before .before .before
+start c = c .before .before .before .before .before .before
 
 abbrev book : tie.After-ask-place → Tables
-book c = let a = start c .args in lent (now (a .links)) (now (a .rules)) (now (a .entries)) (now (a .tally))
+book c = let a = start c .args in lent (now (a .links)) (now (a .rules)) (now (a .entries)) (now (a .tally)) (now (a .disputes))
 
 -- the kind and the mark are the book's
 abbrev asked : tie.After-k → tie.After-ask-place
@@ -31,7 +32,8 @@ answer-requires c κs =
     let k = c .before in
     let a = start (asked k) .args in
     let (fits, within) = admitted _ _ (book (asked k)) _ _ (is-at k) in
-    (within, sized-facts 1 1 (a .n) (a .m) _ _ _ _ fits .links-length)
+    let s = sized-facts 1 1 (a .n) (a .m) _ _ _ _ _ fits in
+    (within, s .links-length, omega (arith, s .disputes-length))
 
 returns : tie.Need-returns
 returns c =

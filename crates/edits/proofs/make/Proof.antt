@@ -7,26 +7,26 @@ use Rattle.edits.proofs.make.Tie as tie
 returns : tie.Need-returns
 unfolding editOutcome
 returns c =
-    let made = c .before .before .before .before .before .before in
-    rw (made .before .before .before .before .before .before .edit .given .1) (made .add-rule .ensures)
+    let made = c .before .before .before .before .before .before .before .before in
+    rw (made .before .before .before .before .before .before .before .edit .given .1) (made .add-rule .ensures)
 
 returns-2 : tie.Need-returns-2
 unfolding editOutcome
 returns-2 c =
-    let made = c .before .before .before .before .before .before in
-    rw (made .before .before .before .before .before .before .edit2 .given .1) (made .take-rule .ensures)
+    let made = c .before .before .before .before .before .before .before .before in
+    rw (made .before .before .before .before .before .before .before .edit2 .given .1) (made .take-rule .ensures)
 
 returns-3 : tie.Need-returns-3
 unfolding editOutcome
 returns-3 c =
-    let made = c .before .before .before .before .before .before in
-    rw (made .before .before .before .before .before .before .edit3 .given .1) (made .add-link .ensures)
+    let made = c .before .before .before .before .before .before .before .before in
+    rw (made .before .before .before .before .before .before .before .edit3 .given .1) (made .add-link .ensures)
 
 returns-4 : tie.Need-returns-4
 unfolding editOutcome
 returns-4 c =
-    let made = c .before .before .before .before .before .before in
-    rw (made .before .before .before .before .before .before .edit4 .given .1) (made .take-link .ensures)
+    let made = c .before .before .before .before .before .before .before .before in
+    rw (made .before .before .before .before .before .before .before .edit4 .given .1) (made .take-link .ensures)
 
 pub make-spec : {M : Type 1} → statement M
 make-spec =
@@ -34,7 +34,7 @@ make-spec =
     (tie.spec
     (λ c. search needs) (λ c κs. search needs) (λ c. search needs) (λ c κs. search needs)
     (λ c. search needs) (λ c κs. search needs) (λ c. search needs) (λ c κs. search needs)
-    (λ c. search needs) (λ c. search needs) (λ c. search needs) (λ c. search needs) returns
-    (λ c. search needs) (λ c. search needs) (λ c. search needs) (λ c. search needs) returns-2
-    (λ c. search needs) (λ c. search needs) (λ c. search needs) (λ c. search needs) returns-3
-    (λ c. search needs) (λ c. search needs) (λ c. search needs) (λ c. search needs) returns-4)
+    (λ c. search needs) (λ c. search needs) (λ c. search needs) (λ c. search needs) (λ c. search needs) returns
+    (λ c. search needs) (λ c. search needs) (λ c. search needs) (λ c. search needs) (λ c. search needs) returns-2
+    (λ c. search needs) (λ c. search needs) (λ c. search needs) (λ c. search needs) (λ c. search needs) returns-3
+    (λ c. search needs) (λ c. search needs) (λ c. search needs) (λ c. search needs) (λ c. search needs) returns-4)

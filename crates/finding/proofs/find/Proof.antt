@@ -11,10 +11,10 @@ use Rattle.finding.proofs.find.Statement.{statement}
 use Rattle.finding.proofs.find.Tie as tie
 
 abbrev start : tie.After-ask-place → tie.Start
-start c = c .before .before .before .before .before
+start c = c .before .before .before .before .before .before
 
 abbrev book : tie.After-ask-place → Tables
-book c = let a = start c .args in lent (now (a .links)) (now (a .rules)) (now (a .entries)) (now (a .tally))
+book c = let a = start c .args in lent (now (a .links)) (now (a .rules)) (now (a .entries)) (now (a .tally)) (now (a .disputes))
 
 -- the kind and the mark are the book's
 abbrev asked : tie.After-k → tie.After-ask-place

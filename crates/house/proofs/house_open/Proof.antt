@@ -8,10 +8,10 @@ use Rattle.house.proofs.house_open.Tie as tie
 
 returns : tie.Need-returns
 returns c =
-    let r = c .before .before .before .before .before .before .before .before .before in
+    let r = c .before .before .before .before .before .before .before .before .before .before .before in
     packed-answer packedOpened (opened (r .open .result)) (r .open .ensures) (c .pack-opened .ensures)
 
 pub house-open-spec : {M : Type 1} → statement M
 house-open-spec =
     tie.close
-    (tie.spec (λ c κs. search needs) (λ c κs. search needs) (λ c. search needs) (λ c. search needs) (λ c. search needs) (λ c. search needs) returns)
+    (tie.spec (λ c κs. search needs) (λ c κs. search needs) (λ c. search needs) (λ c. search needs) (λ c. search needs) (λ c. search needs) (λ c. search needs) returns)

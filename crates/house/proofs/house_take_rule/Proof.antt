@@ -8,9 +8,9 @@ use Rattle.house.proofs.house_take_rule.Tie as tie
 
 returns : tie.Need-returns
 returns c =
-    let r = c .before .before .before .before .before .before .before in
+    let r = c .before .before .before .before .before .before .before .before .before in
     packed-answer packedEdited (edited (r .take-rule .result)) (r .take-rule .ensures) (c .pack-edited .ensures)
 
 pub house-take-rule-spec : {M : Type 1} → statement M
 house-take-rule-spec =
-    tie.close (tie.spec (λ c κs. search needs) (λ c κs. search needs) (λ c. search needs) (λ c. search needs) (λ c. search needs) returns)
+    tie.close (tie.spec (λ c κs. search needs) (λ c κs. search needs) (λ c. search needs) (λ c. search needs) (λ c. search needs) (λ c. search needs) returns)

@@ -1,51 +1,32 @@
--- `inspecting::entry_fault` meets its contract. The loop's invariant: the entries below i are their lookups. Assumes nothing.
-use mathlib.Core.Path.{refl}
-use Prim.Native.Nat.{_-_}
-use native.Mathlib.Omega.{arith}
-use borrow.Author.Tests.{eq-eqb, ne-eqb}
+-- `inspecting::entry_fault` meets its contract: the place found, and else the mark found, say which test fails. Assumes nothing.
+use mathlib.Core.Path.{_≡_, refl}
+use mathlib.Core.Bool.{true}
+use denote.Ref.{now}
 use lib.ListN.{length}
-use Rattle.inspecting.specs.Faults.{as-looked}
-use Rattle.inspecting.proofs.InspectLaws.{Searching, searching-none, searching-more, searching-found, searching-all}
+use borrow.Author.Needs.{needs}
+use Rattle.tables.specs.Tables.{all-below}
+use Rattle.inspecting.specs.Faults.{same-at}
+use Rattle.inspecting.proofs.InspectLaws.{fails-if, passes-if}
 use Rattle.inspecting.proofs.entry_fault.Statement.{statement}
 use Rattle.inspecting.proofs.entry_fault.Tie as tie
 
-abbrev Inv-loop : tie.InvT-loop
-Inv-loop entries lookups i₀ i-end i = Searching (as-looked entries lookups) (length entries) i
+returns : tie.Need-returns
+returns c = let place = c .before .first-apart .ensures in rw (fails-if _ _ place (c .if1 .taken), ← place) refl
 
-abbrev μ-loop : tie.MeasureT-loop
-μ-loop entries lookups i₀ i-end i = length entries - i
+-- past the first test every entry is its lookup
+right : (c : tie.Else1) → let a = c .before .before .before .before .before .before .args in
+    all-below (same-at (now (a .entries)) (now (a .lookups))) (length (now (a .entries))) ≡ true
+right c = passes-if _ _ (c .before .first-apart .ensures) (c .if1 .left)
 
-loop-holds : tie.Need-loop-holds Inv-loop μ-loop
-loop-holds c = searching-none _ _
+returns-2 : tie.Need-returns-2
+returns-2 c =
+    let mark = c .before .first-apart2 .ensures in
+    rw (right (c .before .before), fails-if _ _ mark (c .if2 .taken), ← mark) refl
 
-returns : tie.Need-returns Inv-loop μ-loop
-returns c =
-    let l = c .before .before .before in
-    let found = searching-found (l .before .loop .inv) (l .loop-test .taken) (ne-eqb _ _ (c .if1 .taken)) in
-    rw (found .0, found .1) refl
-
-loop-again : tie.Need-loop-again Inv-loop μ-loop
-loop-again c =
-    let l = c .before .before .before in
-    searching-more (l .before .loop .inv) (l .loop-test .taken) (eq-eqb _ _ (c .if1 .left))
-
-returns-2 : tie.Need-returns-2 Inv-loop μ-loop
-returns-2 c = rw (searching-all (c .before .loop .inv) (c .loop-test .left)) refl
+returns-3 : tie.Need-returns-3
+returns-3 c = rw (right (c .before .before), passes-if _ _ (c .before .first-apart2 .ensures) (c .if2 .left)) refl
 
 pub entry-fault-spec : {M : Type 1} → statement M
 entry-fault-spec =
     tie.close
-    (tie.spec
-    Inv-loop
-    μ-loop
-    loop-holds
-    (λ c. omega arith)
-    (λ c. omega arith)
-    (λ c. omega arith)
-    (λ c. omega arith)
-    (λ c. omega arith)
-    returns
-    (λ c. omega arith)
-    (λ c. omega arith)
-    loop-again
-    returns-2)
+    (tie.spec (λ c κs. search needs) (λ c. search needs) returns (λ c κs. search needs) (λ c. search needs) returns-2 returns-3)

@@ -13,10 +13,10 @@ use Rattle.lane.proofs.lane_find.Statement.{statement}
 use Rattle.lane.proofs.lane_find.Tie as tie
 
 abbrev start : tie.After-ask → tie.Start
-start c = c .before .before .before .before .before .before
+start c = c .before .before .before .before .before .before .before
 
 abbrev book : tie.After-ask → Tables
-book c = let a = start c .args in lent (now (a .links)) (now (a .rules)) (now (a .entries)) (now (a .tally))
+book c = let a = start c .args in lent (now (a .links)) (now (a .rules)) (now (a .entries)) (now (a .tally)) (now (a .disputes))
 
 is-shaped : (c : tie.After-ask) → shaped-bytes (start c .args .n) (start c .args .m) (book c) ≡ c .before .shape-bytes .result
 is-shaped c = sym (c .before .shape-bytes .ensures)

@@ -6,7 +6,7 @@ use Rattle.link_edits.proofs.add_link.Statement.{statement}
 use Rattle.link_edits.proofs.add_link.Tie as tie
 
 returns : tie.Need-returns
-returns c = c .before .before .before .before .before .before .change-link .ensures ∙ added-link _ _ _ _ _ _
+returns c = c .before .before .before .before .before .before .before .before .change-link .ensures ∙ added-link _ _ _ _ _ _
 
 pub add-link-spec : {M : Type 1} → statement M
-add-link-spec = tie.close (tie.spec (λ c κs. search needs) (λ c. search needs) (λ c. search needs) (λ c. search needs) returns)
+add-link-spec = tie.close (tie.spec (λ c κs. search needs) (λ c. search needs) (λ c. search needs) (λ c. search needs) (λ c. search needs) returns)

@@ -13,10 +13,10 @@ use Rattle.link_edits.proofs.change_link.Statement.{statement}
 use Rattle.link_edits.proofs.change_link.Tie as tie
 
 abbrev start : tie.After-ask-caller → tie.Start
-start c = c .before .before .before .before .before .before .before .before
+start c = c .before .before .before .before .before .before .before .before .before .before
 
 abbrev book : tie.After-ask-caller → Tables
-book c = let a = start c .args in lent (now (a .links)) (now (a .rules)) (now (a .entries)) (now (a .tally))
+book c = let a = start c .args in lent (now (a .links)) (now (a .rules)) (now (a .entries)) (now (a .tally)) (now (a .disputes))
 
 -- where the caller was asked for, from where the child and the parent were
 abbrev called : tie.After-ask-link → tie.After-ask-caller
@@ -35,7 +35,7 @@ is-between c = sym (asked c .ask-link .ensures) ∙ c .c .given .1
 
 edit-link-requires : tie.Need-edit-link-requires
 edit-link-requires c κs =
-    let k = c .before .before .before .before in
+    let k = c .before .before .before .before .before in
     let x = asked k in
     let a = start (called x) .args in
     let by = asked-by _ _ (book (called x)) (a .caller .0) (is-by x) in
@@ -54,8 +54,8 @@ returns-2 c =
 
 returns-3 : tie.Need-returns-3
 returns-3 c =
-    let r = c .before .before .before .before .before .before in
-    let k = r .before .before .before .before .before in
+    let r = c .before .before .before .before .before .before .before .before in
+    let k = r .before .before .before .before .before .before in
     let x = asked k in
     r .edit-link .ensures ∙ link-passed _ _ (book (called x)) _ _ _ (start (called x) .args .adding) (is-by x) (is-between k)
 
@@ -64,6 +64,6 @@ change-link-spec =
     tie.close
     (tie.spec
     (λ c κs. search needs) (λ c. search needs) (λ c. search needs) (λ c κs. search needs) (λ c. search needs) (λ c. search needs) edit-link-requires
-    (λ c. search needs) (λ c. search needs) (λ c. search needs) returns
-    (λ c. search needs) (λ c. search needs) (λ c. search needs) returns-2
-    (λ c. search needs) (λ c. search needs) (λ c. search needs) returns-3)
+    (λ c. search needs) (λ c. search needs) (λ c. search needs) (λ c. search needs) returns
+    (λ c. search needs) (λ c. search needs) (λ c. search needs) (λ c. search needs) returns-2
+    (λ c. search needs) (λ c. search needs) (λ c. search needs) (λ c. search needs) returns-3)

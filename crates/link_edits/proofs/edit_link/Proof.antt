@@ -17,10 +17,10 @@ use Rattle.link_edits.proofs.edit_link.Statement.{statement}
 use Rattle.link_edits.proofs.edit_link.Tie as tie
 
 abbrev start : tie.After-ruled → tie.Start
-start c = c .before .before .before .before .before .before .before .before .before .before
+start c = c .before .before .before .before .before .before .before .before .before .before .before .before
 
 abbrev book : tie.After-ruled → Tables
-book c = let a = start c .args in lent (now (a .links)) (now (a .rules)) (now (a .entries)) (now (a .tally))
+book c = let a = start c .args in lent (now (a .links)) (now (a .rules)) (now (a .entries)) (now (a .tally)) (now (a .disputes))
 
 -- where the tables were examined
 abbrev asked : tie.Else1 → tie.After-ruled
@@ -33,12 +33,12 @@ abbrev found : tie.After-judge → tie.After-next
 found c = c .before .before .before
 
 abbrev allowed : tie.After-ruled2 → tie.After-enum-told
-allowed c = c .before .before .before .before .before .before .before
+allowed c = c .before .before .before .before .before .before .before .before
 
 -- past the first test the tables are sound
 is-known : (c : tie.Else1) → let a = start (asked c) .args in
-    Known (a .n) (a .m) (book (asked c)) (c .before .examine .last .1 .1 .1 .1 .1 .0) (c .before .examine .last .1 .1 .1 .1 .1 .1 .0)
-    (c .before .examine .last .1 .1 .1 .1 .1 .1 .1 .0) (c .before .examine .last .1 .1 .1 .1 .1 .1 .1 .1 .0)
+    Known (a .n) (a .m) (book (asked c)) (c .before .examine .last .1 .1 .1 .1 .1 .1 .0) (c .before .examine .last .1 .1 .1 .1 .1 .1 .1 .0)
+    (c .before .examine .last .1 .1 .1 .1 .1 .1 .1 .1 .0) (c .before .examine .last .1 .1 .1 .1 .1 .1 .1 .1 .1 .0)
 is-known c = known _ _ (book (asked c)) _ _ _ _ (start (asked c) .pre .0) (c .before .examine .ensures) (not-false _ (c .if1 .left))
 
 -- what the rows say is what the links say
@@ -90,7 +90,7 @@ apply-link-requires c κs =
 
 returns-3 : tie.Need-returns-3
 returns-3 c =
-    let r = c .before .before .before .before .before .before in
+    let r = c .before .before .before .before .before .before .before .before in
     let a = allowed (r .before) in
     let j = a .before .before in
     let e = past (found j) in
@@ -104,6 +104,7 @@ edit-link-spec =
     examine-requires
     (λ c. search needs)
     (λ c. search needs)
+    (λ c. search needs)
     returns
     (λ c. search needs)
     next-requires
@@ -113,7 +114,9 @@ edit-link-spec =
     apply-link-requires
     (λ c. search needs)
     (λ c. search needs)
+    (λ c. search needs)
     returns-2
+    (λ c. search needs)
     (λ c. search needs)
     (λ c. search needs)
     (λ c. search needs)

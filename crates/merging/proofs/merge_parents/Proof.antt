@@ -8,7 +8,7 @@ use Rattle.relation.specs.Bit.{bit}
 use Rattle.deciding.specs.Row.{Row}
 use Rattle.merging.specs.Merged.{given}
 use Rattle.merging.proofs.Giving.{row-empty, row-first, row-merge, row-next}
-use Rattle.ruling.proofs.RulingLaws.{row-in}
+use Rattle.tables.proofs.TableLaws.{row-in}
 use Rattle.merging.proofs.merge_parents.Statement.{statement}
 use Rattle.merging.proofs.merge_parents.Tie as tie
 

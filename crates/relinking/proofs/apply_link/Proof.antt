@@ -8,25 +8,25 @@ use denote.Ref.{now}
 use borrow.Author.Needs.{needs}
 use Rattle.inheritance.specs.Above.{one-if}
 use Rattle.tables.specs.Tables.{Tables, lent}
-use Rattle.resettling.proofs.KnownLaws.{has, fits-sized, fits-tally}
+use Rattle.resettling.proofs.KnownLaws.{has, counts, fits-sized, fits-tally}
 use Rattle.relinking.proofs.RelinkLaws.{link-prepared, link-untouched, link-done}
 use Rattle.relinking.proofs.apply_link.Statement.{statement}
 use Rattle.relinking.proofs.apply_link.Tie as tie
 
 abbrev start : tie.After-link-place → tie.Start
-start c = c .before .before .before .before .before
+start c = c .before .before .before .before .before .before
 
 abbrev book : tie.After-link-place → Tables
-book c = let a = start c .args in lent (now (a .links)) (now (a .rules)) (now (a .entries)) (now (a .tally))
+book c = let a = start c .args in lent (now (a .links)) (now (a .rules)) (now (a .entries)) (now (a .tally)) (now (a .disputes))
 
 abbrev placed : tie.After-relink → tie.After-link-place
 placed c = c .before .before .before .before .before
 
 abbrev relinked : tie.After-resettle-link → tie.After-relink
-relinked c = c .before .before .before .before .before .before
+relinked c = c .before .before .before .before .before .before .before
 
 abbrev settled : tie.After-count-edit → tie.After-resettle-link
-settled c = c .before .before .before .before
+settled c = c .before .before .before .before .before .before
 
 within : (c : tie.After-link-place) → c .link-place .result < length (now (start c .args .links))
 within c = let p = start c .pre .0 in omega (arith, c .link-place .ensures, has (p .0) .lengths .links-length, digits-lt (p .2) (p .3))
@@ -42,11 +42,11 @@ relink-requires c κs =
 
 resettle-link-requires : tie.Need-resettle-link-requires
 resettle-link-requires c κs =
-    let r = c .before .before .before .before .before in
+    let r = c .before .before .before .before .before .before in
     let s = start (placed r) in
     let p = s .pre .0 in
     let t = book (placed r) in (
-      (fits-sized _ _ t (p .0 .fits) .0, p .2),
+      (fits-sized _ _ t (p .0 .fits) .0, p .2, counts (p .0)),
       (
         link-prepared _ _ t _ _ (s .args .adding) (p .0) (p .2) (p .3) (s .pre .1) (r .relink .ensures),
         link-untouched _ _ t _ _ (s .args .adding) (p .0) (p .2) (p .3) (s .pre .1) (r .relink .ensures),
@@ -55,7 +55,7 @@ resettle-link-requires c κs =
 
 count-edit-requires : tie.Need-count-edit-requires
 count-edit-requires c κs =
-    let q = placed (relinked (c .before .before .before)) in
+    let q = placed (relinked (c .before .before .before .before .before)) in
     omega (arith, fits-tally _ _ (book q) (start q .pre .0 .0 .fits), start q .pre .0 .1)
 
 returns : tie.Need-returns
@@ -67,7 +67,8 @@ returns c =
     let s = start q in
     let p = s .pre .0 in
     link-done _ _ (book q) _ _ (s .args .adding) (p .0) (p .2) (p .3) (s .pre .1) (r .relink .ensures) (s .args .caller .0)
-    (ap (λ (i : ℕ). set (now (s .args .links)) i (one-if (s .args .adding))) (q .link-place .ensures)) (l .resettle-link .ensures) (e .count-edit .ensures)
+    (ap (λ (i : ℕ). set (now (s .args .links)) i (one-if (s .args .adding))) (q .link-place .ensures)) (l .resettle-link .ensures .0) (l .resettle-link .ensures .1)
+    (e .count-edit .ensures)
 
 pub apply-link-spec : {M : Type 1} → statement M
 apply-link-spec =
@@ -79,6 +80,7 @@ apply-link-spec =
     relink-requires
     resettle-link-requires
     count-edit-requires
+    (λ c. search needs)
     (λ c. search needs)
     (λ c. search needs)
     (λ c. search needs)

@@ -10,13 +10,13 @@ use Rattle.reruling.proofs.apply_rule.Statement.{statement}
 use Rattle.reruling.proofs.apply_rule.Tie as tie
 
 abbrev start : tie.After-place → tie.Start
-start c = c .before .before .before .before
+start c = c .before .before .before .before .before
 
 abbrev placed : tie.After-next → tie.After-place
 placed c = c .before .before .before
 
 abbrev found : tie.After-resettle-rule → tie.After-next
-found c = c .before .before .before .before .before
+found c = c .before .before .before .before .before .before
 
 within : (c : tie.After-place) → c .place .result < length (now (start c .args .rules))
 within c = let p = start c .pre .0 in rule-within _ _ (p .0) _ _ (start c .args .handling) (p .3) (p .4) _ (c .place .ensures)
@@ -24,7 +24,7 @@ within c = let p = start c .pre .0 in rule-within _ _ (p .0) _ _ (start c .args 
 rerule-requires : tie.Need-rerule-requires
 rerule-requires c κs =
     let s = start (placed c) in
-    let ready = s .pre .1 .0 in (
+    let ready = s .pre .1 .0 .0 in (
       omega (arith, s .pre .0 .4, s .pre .0 .0 .marks),
       omega (arith, kind-place _ _ _ _ (ready .arranged) (s .pre .0 .0 .kinds) _ (s .pre .0 .3) (c .next .ensures) .0, s .pre .0 .0 .kinds),
       ready .rule-kinds .long,
@@ -32,14 +32,14 @@ rerule-requires c κs =
 
 resettle-rule-requires : tie.Need-resettle-rule-requires
 resettle-rule-requires c κs =
-    let f = c .before .before .before in
+    let f = c .before .before .before .before in
     let q = placed (f .before) in
     let s = start q in
     let p = s .pre .0 in
     let h = s .args .handling in (
-      (rule-sized _ _ (p .0) _ _ h (p .3) (p .4) _ (q .place .ensures), p .3, p .4),
+      (rule-sized _ _ (p .0) _ _ h (p .3) (p .4) _ (q .place .ensures), p .3, p .4, s .pre .1 .0 .1),
       (
-        rule-prepared _ _ (p .0) _ _ h (p .3) (p .4) _ (q .place .ensures) (s .pre .1 .0) (f .before .next .ensures) (f .rerule .ensures),
+        rule-prepared _ _ (p .0) _ _ h (p .3) (p .4) _ (q .place .ensures) (s .pre .1 .0 .0) (f .before .next .ensures) (f .rerule .ensures),
         rw (q .place .ensures) (s .pre .1 .1),
       ),
     )
@@ -47,10 +47,11 @@ resettle-rule-requires c κs =
 returns : tie.Need-returns
 returns c =
     let counted = c .before .before in
-    let r = counted .before .before .before .before in
+    let r = counted .before .before .before .before .before .before in
     let q = placed (found r) in
     let p = start q .pre .0 in
-    rule-applied _ _ (p .0) _ _ (start q .args .handling) (p .3) (p .4) _ (q .place .ensures) (r .resettle-rule .ensures) (counted .count-edit .ensures)
+    rule-applied _ _ (p .0) _ _ (start q .args .handling) (p .3) (p .4) _ (q .place .ensures) (r .resettle-rule .ensures .0) (r .resettle-rule .ensures .1)
+    (counted .count-edit .ensures)
 
 pub apply-rule-spec : {M : Type 1} → statement M
 apply-rule-spec =
@@ -64,6 +65,7 @@ apply-rule-spec =
     rerule-requires
     resettle-rule-requires
     (λ c κs. search needs)
+    (λ c. search needs)
     (λ c. search needs)
     (λ c. search needs)
     (λ c. search needs)

@@ -6,7 +6,7 @@ use Rattle.rule_edits.proofs.add_rule.Statement.{statement}
 use Rattle.rule_edits.proofs.add_rule.Tie as tie
 
 returns : tie.Need-returns
-returns c = c .before .before .before .before .before .before .change-rule .ensures ∙ added-rule _ _ _ _ _ _ _
+returns c = c .before .before .before .before .before .before .before .before .change-rule .ensures ∙ added-rule _ _ _ _ _ _ _
 
 pub add-rule-spec : {M : Type 1} → statement M
-add-rule-spec = tie.close (tie.spec (λ c κs. search needs) (λ c. search needs) (λ c. search needs) (λ c. search needs) returns)
+add-rule-spec = tie.close (tie.spec (λ c κs. search needs) (λ c. search needs) (λ c. search needs) (λ c. search needs) (λ c. search needs) returns)

@@ -13,10 +13,10 @@ use Rattle.rule_edits.proofs.change_rule.Statement.{statement}
 use Rattle.rule_edits.proofs.change_rule.Tie as tie
 
 abbrev start : tie.After-ask-caller → tie.Start
-start c = c .before .before .before .before .before .before .before .before
+start c = c .before .before .before .before .before .before .before .before .before .before
 
 abbrev book : tie.After-ask-caller → Tables
-book c = let a = start c .args in lent (now (a .links)) (now (a .rules)) (now (a .entries)) (now (a .tally))
+book c = let a = start c .args in lent (now (a .links)) (now (a .rules)) (now (a .entries)) (now (a .tally)) (now (a .disputes))
 
 -- where the caller was asked for, from where the kind and the mark were
 abbrev called : tie.After-ask-at → tie.After-ask-caller
@@ -35,7 +35,7 @@ is-at c = sym (asked c .ask-at .ensures) ∙ c .k .given .1
 
 edit-rule-requires : tie.Need-edit-rule-requires
 edit-rule-requires c κs =
-    let k = c .before .before .before .before .before in
+    let k = c .before .before .before .before .before .before in
     let x = asked k in
     let a = start (called x) .args in
     let by = asked-by _ _ (book (called x)) (a .caller .0) (is-by x) in
@@ -60,8 +60,8 @@ returns-3 c =
 
 returns-4 : tie.Need-returns-4
 returns-4 c =
-    let r = c .before .before .before .before .before .before in
-    let e = r .before .before .before .before in
+    let r = c .before .before .before .before .before .before .before .before in
+    let e = r .before .before .before .before .before in
     let k = e .before .before in
     let x = asked k in
     r .edit-rule .ensures ∙ rule-passed _ _ (book (called x)) _ _ _ _ (start (called x) .args .adding) (is-by x) (is-at k) (e .if1 .left)
@@ -71,7 +71,7 @@ change-rule-spec =
     tie.close
     (tie.spec
     (λ c κs. search needs) (λ c. search needs) (λ c. search needs) (λ c κs. search needs) (λ c. search needs) (λ c. search needs) edit-rule-requires
-    (λ c. search needs) (λ c. search needs) (λ c. search needs) returns
-    (λ c. search needs) (λ c. search needs) (λ c. search needs) returns-2
-    (λ c. search needs) (λ c. search needs) (λ c. search needs) returns-3
-    (λ c. search needs) (λ c. search needs) (λ c. search needs) returns-4)
+    (λ c. search needs) (λ c. search needs) (λ c. search needs) (λ c. search needs) returns
+    (λ c. search needs) (λ c. search needs) (λ c. search needs) (λ c. search needs) returns-2
+    (λ c. search needs) (λ c. search needs) (λ c. search needs) (λ c. search needs) returns-3
+    (λ c. search needs) (λ c. search needs) (λ c. search needs) (λ c. search needs) returns-4)

@@ -9,29 +9,29 @@ use borrow.Author.Tests.{not-true, not-false}
 use Rattle.tables.specs.Tables.{Tables, lent}
 use Rattle.relation.proofs.Zeros.{blank-zeros}
 use Rattle.resettling.specs.Known.{Known}
-use Rattle.resettling.proofs.KnownLaws.{fits-sized, fits-tally, known}
+use Rattle.resettling.proofs.KnownLaws.{fits-sized, fits-tally, known, counts}
 use Rattle.reruling.proofs.ReruleLaws.{rule-within}
 use Rattle.rule_edits.proofs.RuleEditLaws.{rule-unsound, rule-absent, rule-untouched, rule-done}
 use Rattle.rule_edits.proofs.edit_rule.Statement.{statement}
 use Rattle.rule_edits.proofs.edit_rule.Tie as tie
 
 abbrev start : tie.After-ruled → tie.Start
-start c = c .before .before .before .before .before .before .before .before .before .before
+start c = c .before .before .before .before .before .before .before .before .before .before .before .before
 
 abbrev book : tie.After-ruled → Tables
-book c = let a = start c .args in lent (now (a .links)) (now (a .rules)) (now (a .entries)) (now (a .tally))
+book c = let a = start c .args in lent (now (a .links)) (now (a .rules)) (now (a .entries)) (now (a .tally)) (now (a .disputes))
 
 -- where the tables were examined
 abbrev asked : tie.After-place → tie.After-ruled
 asked c = c .before .before .before
 
 abbrev applied : tie.After-apply-rule → tie.Else2
-applied c = c .before .before .before .before .before .before .before .before
+applied c = c .before .before .before .before .before .before .before .before .before
 
 -- past the first test the tables are sound
 is-known : (c : tie.Else1) → let a = start (c .before .before) .args in
-    Known (a .n) (a .m) (book (c .before .before)) (c .before .examine .last .1 .1 .1 .1 .1 .0) (c .before .examine .last .1 .1 .1 .1 .1 .1 .0)
-    (c .before .examine .last .1 .1 .1 .1 .1 .1 .1 .0) (c .before .examine .last .1 .1 .1 .1 .1 .1 .1 .1 .0)
+    Known (a .n) (a .m) (book (c .before .before)) (c .before .examine .last .1 .1 .1 .1 .1 .1 .0) (c .before .examine .last .1 .1 .1 .1 .1 .1 .1 .0)
+    (c .before .examine .last .1 .1 .1 .1 .1 .1 .1 .1 .0) (c .before .examine .last .1 .1 .1 .1 .1 .1 .1 .1 .1 .0)
 is-known c =
     let s = start (c .before .before) in
     known _ _ (book (c .before .before)) _ _ _ _ (s .pre .0) (c .before .examine .ensures) (not-false _ (c .if1 .left))
@@ -58,17 +58,17 @@ returns-2 c =
 
 apply-rule-requires : tie.Need-apply-rule-requires
 apply-rule-requires c κs =
-    let q = c .before .before .before .before .before .before .before .before .before in
+    let q = c .before .before .before .before .before .before .before .before .before .before in
     let s = start (asked q) in
     let t = book (asked q) in
     let k = is-known (q .before) in (
       (fits-sized _ _ t (s .pre .0) .0, fits-tally _ _ t (s .pre .0), s .pre .1, s .pre .2, s .pre .3),
-      (k .prepared, rule-untouched _ _ t _ _ (s .args .handling) k (s .pre .3)),
+      ((k .prepared, counts k), rule-untouched _ _ t _ _ (s .args .handling) k (s .pre .3)),
     )
 
 returns-3 : tie.Need-returns-3
 returns-3 c =
-    let r = c .before .before .before .before .before .before in
+    let r = c .before .before .before .before .before .before .before .before in
     let q = applied r .before .before in
     let s = start (asked q) in
     rule-done _ _ (book (asked q)) _ _ (s .args .handling) (is-known (q .before)) (s .pre .3) _ (q .place .ensures) (s .args .caller .0) (applied r .if2 .left) (r .apply-rule .ensures)
@@ -80,14 +80,17 @@ edit-rule-spec =
     examine-requires
     (λ c. search needs)
     (λ c. search needs)
+    (λ c. search needs)
     returns
     (λ c κs. search needs)
     (λ c. omega (arith, within c))
     (λ c. within (c .before))
     (λ c. search needs)
     (λ c. search needs)
+    (λ c. search needs)
     returns-2
     apply-rule-requires
+    (λ c. search needs)
     (λ c. search needs)
     (λ c. search needs)
     (λ c. search needs)

@@ -6,7 +6,7 @@ use Rattle.rule_edits.proofs.take_rule.Statement.{statement}
 use Rattle.rule_edits.proofs.take_rule.Tie as tie
 
 returns : tie.Need-returns
-returns c = c .before .before .before .before .before .before .change-rule .ensures ∙ taken-rule _ _ _ _ _ _
+returns c = c .before .before .before .before .before .before .before .before .change-rule .ensures ∙ taken-rule _ _ _ _ _ _
 
 pub take-rule-spec : {M : Type 1} → statement M
-take-rule-spec = tie.close (tie.spec (λ c κs. search needs) (λ c. search needs) (λ c. search needs) (λ c. search needs) returns)
+take-rule-spec = tie.close (tie.spec (λ c κs. search needs) (λ c. search needs) (λ c. search needs) (λ c. search needs) (λ c. search needs) returns)

@@ -8,11 +8,11 @@ use Rattle.rulebook.proofs.run.Statement.{statement}
 use Rattle.rulebook.proofs.run.Tie as tie
 
 abbrev Inv-loop : tie.InvT-loop
-Inv-loop block₀ carry₀ links₀ rules₀ entries₀ tally₀ out₀ state₀ taken₀ coming₀ turns₀ block carry links rules entries tally out state taken coming turns =
+Inv-loop block₀ carry₀ links₀ rules₀ entries₀ tally₀ disputes₀ out₀ state₀ taken₀ coming₀ turns₀ block carry links rules entries tally disputes out state taken coming turns =
     Unit {0}
 
 abbrev μ-loop : tie.MeasureT-loop
-μ-loop block₀ carry₀ links₀ rules₀ entries₀ tally₀ out₀ state₀ taken₀ coming₀ turns₀ block carry links rules entries tally out state taken coming turns =
+μ-loop block₀ carry₀ links₀ rules₀ entries₀ tally₀ disputes₀ out₀ state₀ taken₀ coming₀ turns₀ block carry links rules entries tally disputes out state taken coming turns =
     turns
 
 write-requires : tie.Need-write-requires Inv-loop μ-loop
@@ -22,7 +22,7 @@ write-requires-2 : tie.Need-write-requires-2 Inv-loop μ-loop
 write-requires-2 c κs = put-fits (c .before .close .ensures .output)
 
 abbrev begun : tie.After-write Inv-loop μ-loop → tie.In-loop Inv-loop μ-loop
-begun c = c .before .before .before .before .before .before .before .before .before .before .before .before
+begun c = c .before .before .before .before .before .before .before .before .before .before .before .before .before
 
 sub-turns : tie.Need-sub-turns Inv-loop μ-loop
 sub-turns c = let more = simp and-iff at (begun c .loop-test .taken) in omega (arith, ltb-true)

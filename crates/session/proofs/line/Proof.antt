@@ -1,5 +1,6 @@
 -- `session::line` meets its contract: `by-call` makes the answer to a form's call that of the line. Assumes nothing.
 use mathlib.Core.Path.{_≡_, sym, ap, subst, _∙_}
+use native.Mathlib.Omega.{arith}
 use borrow.Author.Needs.{needs}
 use Rattle.tables.specs.Reply.{given}
 use Rattle.forms.specs.Forms.{formOf}
@@ -16,14 +17,24 @@ start c = c .before .before .before
 asked : (c : tie.After-call-for) → wanted (c .call-for .result) ≡ callFor (start c .args .n) (start c .args .m) (formOf (start c .args .input .now))
 asked c = c .call-for .ensures .0 ∙ ap (callFor (start c .args .n) (start c .args .m)) (c .before .read .ensures)
 
-abbrev told : tie.After-carry-arg5 → tie.After-call
-told c = c .before .before .before .before .before .before
+abbrev told : tie.After-carry-arg6 → tie.After-call
+told c = c .before .before .before .before .before .before .before
 
 carry-requires : tie.Need-carry-requires
 carry-requires c κs =
     let k = told c in
-    let a = k .before .before in
-    (search needs, subst (λ (w : Wanted). OfBookIf (start a .args .n) (start a .args .m) (wanted w)) (k .call .given .1) (a .call-for .ensures .1))
+    let a = k .before .before in (
+      record {
+        kinds = (omega arith, omega arith);
+        marks = (omega arith, omega arith);
+        links-length = c .before .before .before .before .before .carry-arg .given .0 .1;
+        rules-length = c .before .before .before .before .carry-arg2 .given .0 .1;
+        entries-length = c .before .before .before .carry-arg3 .given .0 .1;
+        tally-length = c .before .before .carry-arg4 .given .0 .1;
+        disputes-length = c .before .carry-arg5 .given .0 .1;
+      },
+      subst (λ (w : Wanted). OfBookIf (start a .args .n) (start a .args .m) (wanted w)) (k .call .given .1) (a .call-for .ensures .1),
+    )
 
 returns : tie.Need-returns
 returns c =

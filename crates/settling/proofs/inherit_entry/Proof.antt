@@ -9,7 +9,7 @@ use lib.ListN.{length}
 use Rattle.relation.specs.Bit.{bit}
 use Rattle.deciding.specs.Deciding.{apart, deciding}
 use Rattle.deciding.proofs.DecidingLaws.{held}
-use Rattle.ruling.proofs.RulingLaws.{row-in}
+use Rattle.tables.proofs.TableLaws.{row-in}
 use Rattle.merging.specs.Merged.{given}
 use Rattle.merging.proofs.Giving.{given-zero, given-next, given-merge, step-done}
 use Rattle.settling.proofs.inherit_entry.Statement.{statement}

@@ -20,15 +20,19 @@ slice-aggregate-answer c =
     let k = c .before .before in
     sym (length-take-le _ _ (omega (arith, k .least .ensures, k .before .whole .given)))
 
+-- the carry has a byte
+abbrev some : tie.After-answer → tie.Else1
+some c = c .before .before .before .before .before .before .before .before
+
 abbrev counted : tie.After-answer → tie.After-least
-counted c = c .before .before .before .before .before .before .before .before
+counted c = some c .before
 
 returns-2 : tie.Need-returns-2
 returns-2 c =
     let k = counted c in
     let a = k .before .before .args in
     let same = take-leading (a .carry .now) (a .state .carried) (k .least .ensures) refl in
-    rw (← same) (closed-line _ (take (k .least .result) (a .carry .now)) (simp length-take (omega arith)) (c .answer .ensures))
+    rw (← same) (closed-line _ (take (k .least .result) (a .carry .now)) (simp length-take (omega (arith, some c .if1 .left))) (c .answer .ensures))
 
 pub close-spec : {M : Type 1} → statement M
 close-spec = tie.close (tie.spec (λ c κs. search needs) returns slice-aggregate-answer (λ c κs. search needs) returns-2)

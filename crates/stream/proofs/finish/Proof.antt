@@ -7,13 +7,13 @@ use Rattle.stream.proofs.finish.Statement.{statement}
 use Rattle.stream.proofs.finish.Tie as tie
 
 abbrev empty : tie.After-answer → tie.Then1
-empty c = c .before .before .before .before .before .before
+empty c = c .before .before .before .before .before .before .before
 
 returns : tie.Need-returns
 returns c = let done = c .before .before in rw (empty done .if1 .taken) (done .answer .ensures)
 
 abbrev joined : tie.After-answer2 → tie.After-add
-joined c = c .before .before .before .before .before .before .before .before .before
+joined c = c .before .before .before .before .before .before .before .before .before .before
 
 returns-2 : tie.Need-returns-2
 returns-2 c = let done = c .before .before in rw (joined done .add .ensures .whole, cut-line) at (done .answer2 .ensures)

@@ -13,11 +13,12 @@ use Rattle.stream.proofs.lines.Statement.{statement}
 use Rattle.stream.proofs.lines.Tie as tie
 
 abbrev Inv-loop : tie.InvT-loop
-Inv-loop block carry₀ links₀ rules₀ entries₀ tally₀ out₀ state₀ from₀ end₀ carry links rules entries tally out state from end =
-    Passing block (passed (held state₀ (lent links₀ rules₀ entries₀ tally₀)) (take (state₀ .carried) carry₀) block) (state₀ .waiting) out₀ state (lent links rules entries tally) carry out from end
+Inv-loop block carry₀ links₀ rules₀ entries₀ tally₀ disputes₀ out₀ state₀ from₀ end₀ carry links rules entries tally disputes out state from end =
+    Passing block (passed (held state₀ (lent links₀ rules₀ entries₀ tally₀ disputes₀)) (take (state₀ .carried) carry₀) block) (state₀ .waiting) out₀
+    state (lent links rules entries tally disputes) carry out from end
 
 abbrev μ-loop : tie.MeasureT-loop
-μ-loop block carry₀ links₀ rules₀ entries₀ tally₀ out₀ state₀ from₀ end₀ carry links rules entries tally out state from end =
+μ-loop block carry₀ links₀ rules₀ entries₀ tally₀ disputes₀ out₀ state₀ from₀ end₀ carry links rules entries tally disputes out state from end =
     length block - from
 
 loop-holds : tie.Need-loop-holds Inv-loop μ-loop
@@ -27,7 +28,7 @@ loop-holds c =
     begins (a .block .now) (a .start) _ (a .carry .now) (a .out .now) (c .line-end .ensures) (start .pre .0) (start .pre .1)
 
 abbrev turning : tie.After-finish Inv-loop μ-loop → tie.At-loop Inv-loop μ-loop
-turning c = c .before .before .before .before .before .before .before .before .before
+turning c = c .before .before .before .before .before .before .before .before .before .before
 
 loop-again : tie.Need-loop-again Inv-loop μ-loop
 loop-again c =

@@ -12,7 +12,7 @@ lines-requires : tie.Need-lines-requires
 lines-requires c κs = (search needs, simp length-take (omega arith))
 
 abbrev counted : tie.After-lines → tie.After-least2
-counted c = c .before .before .before .before .before .before .before .before
+counted c = c .before .before .before .before .before .before .before .before .before
 
 returns : tie.Need-returns
 returns c =

@@ -15,49 +15,51 @@ use Rattle.renewing.proofs.refreshing.refresh.Statement.{statement}
 use Rattle.renewing.proofs.refreshing.refresh.Tie as tie
 
 abbrev start : tie.After-shape → tie.Start
-start c = c .before .before .before .before .before .before
+start c = c .before .before .before .before .before .before .before .before
 
 abbrev book : tie.After-shape → Tables
-book c = let a = start c .args in lent (now (a .links)) (now (a .rules)) (now (a .entries)) (now (a .tally))
+book c = let a = start c .args in lent (now (a .links)) (now (a .rules)) (now (a .entries)) (now (a .tally)) (now (a .disputes))
 
 -- past the first test the tables have their lengths
 is-shaped : (c : tie.Else1) → shaped (start (c .before) .args .n) (start (c .before) .args .m) (book (c .before)) ≡ true
 is-shaped c = sym (c .before .shape .ensures) ∙ not-false _ (c .if1 .left)
 
-fits : (c : tie.Else1) → (length (book (c .before) .links) ≤ 16384) × (length (book (c .before) .entries) ≤ 8192)
+fits : (c : tie.Else1) → (length (book (c .before) .links) ≤ 16384) × (length (book (c .before) .entries) ≤ 8192) × (length (book (c .before) .disputes) ≤ 64)
 fits c = places-fit _ _ (book (c .before)) (is-shaped c)
 
 abbrev past : tie.After-look-up → tie.Else1
-past c = c .before .before .before .before
+past c = c .before .before .before .before .before
 
 returns : tie.Need-returns
 returns c = refresh-refused _ _ (book (c .before)) (sym (c .before .shape .ensures) ∙ not-true _ (c .if1 .taken))
 
 look-up-requires : tie.Need-look-up-requires
 look-up-requires c κs =
-    let e = c .before .before .before in
-    let r = look-ready _ _ (book (e .before)) (is-shaped e) (part-length _ 8192 0 (fits e .1)) in
-    (r .0, r .1, blank-zeros 256 refl)
+    let e = c .before .before .before .before in
+    let r = look-ready _ _ (book (e .before)) (is-shaped e) (part-length _ 8192 0 (fits e .1)) refl in
+    (r .0, r .1, blank-zeros 256 refl, r .2, r .3)
 
 returns-2 : tie.Need-returns-2
 returns-2 c =
     let t = c .before in
-    let l = t .before .before .before in
-    refresh-unsound _ _ (book (past l .before)) (is-shaped (past l)) (sym (l .look-up .ensures .answer) ∙ not-true _ (t .if2 .taken))
+    let l = t .before .before .before .before .before in
+    let x = l .look-up .ensures in
+    let none = not-true _ (t .if2 .taken) in
+    refresh-unsound _ _ (book (past l .before)) (is-shaped (past l)) (sym (x .answer) ∙ none) (x .kept none)
 
 replace-requires : tie.Need-replace-requires
 replace-requires c κs =
-    let l = c .before .before .before .before .before in
-    (omega (arith, l .look-up .kept .1 .1 .1 .1 .1, part-length _ 8192 0 (fits (past l) .1)), fits (past l) .1)
+    let l = c .before .before .before .before .before .before .before in
+    (omega (arith, l .look-up .kept .1 .1 .1 .1 .1 .0, part-length _ 8192 0 (fits (past l) .1)), fits (past l) .1)
 
 returns-3 : tie.Need-returns-3
 returns-3 c =
     let w = c .before .before .before in
     let e = w .before .before .before in
-    let l = e .before .before .before in
+    let l = e .before .before .before .before .before in
     let x = l .look-up .ensures in
     let found = not-false _ (e .if2 .left) in
-    refresh-done _ _ (book (past l .before)) (is-shaped (past l)) (sym (x .answer) ∙ found) (x .looked found) (w .replace .ensures)
+    refresh-done _ _ (book (past l .before)) (is-shaped (past l)) (sym (x .answer) ∙ found) (x .looked found) (x .counted found) (w .replace .ensures)
 
 pub refresh-spec : {M : Type 1} → statement M
 refresh-spec =
@@ -65,12 +67,15 @@ refresh-spec =
     (tie.spec
     (λ c κs. search needs)
     (λ c. search needs)
+    (λ c. search needs)
     returns
     (λ c. fits c .1)
     (λ c. sym (part-length _ 8192 0 (fits (c .before) .1)))
     look-up-requires
     (λ c. search needs)
+    (λ c. search needs)
     returns-2
     replace-requires
+    (λ c. search needs)
     (λ c. search needs)
     returns-3)

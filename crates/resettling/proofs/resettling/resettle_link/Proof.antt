@@ -12,10 +12,10 @@ use Rattle.resettling.proofs.resettling.resettle_link.Tie as tie
 
 resettle-requires : tie.Need-resettle-requires
 resettle-requires c κs =
-    let p = c .before .before .before .before .pre in (
-      (p .0 .0, record { most = p .0 .0 .marks; low = omega arith; high = omega arith }, p .0 .1),
+    let p = c .before .before .before .before .before .before .pre in (
+      (p .0 .0, record { most = p .0 .0 .marks; low = omega arith; high = omega arith }, p .0 .1, p .0 .2),
       (p .1 .0, untouched-stops _ _ _ _ _ _ _ _ (λ _. false) _ (λ k h. sym (ap (λ (x : ℕ). not (eqb x 0)) (getD-zeros 128 k))) (p .1 .1)),
     )
 
 pub resettle-link-spec : {M : Type 1} → statement M
-resettle-link-spec = tie.close (tie.spec resettle-requires (λ c. search needs) (λ c. search needs))
+resettle-link-spec = tie.close (tie.spec resettle-requires (λ c. search needs) (λ c. search needs) (λ c. search needs))
