@@ -11,7 +11,7 @@ ghost use mathlib.Core.Path.{_≡_};
 ghost use Rattle.inheritance.specs.Checked.{kindBelow, markBelow};
 ghost use Rattle.tables.specs.Controller.{shaped-bytes};
 ghost use Rattle.tables.specs.Tables.{lent, sized, shaped};
-ghost use Rattle.asking.specs.Ask.{askedAt, asked, askedLink, checked, checkedCaller};
+ghost use Rattle.asking.specs.Ask.{askedAt, askedLink, checked, checkedCaller};
 
 // A kind and a mark of the book that a call is put to, or its refusal.
 pub enum Asked {
@@ -122,18 +122,7 @@ pub fn ask_at(n: u16, m: u16, kind: Kind, mark: Mark) -> Asked
     }
 }
 
-// The same after refusal 1, where shaped says whether the tables have their lengths.
-pub fn ask(shaped: bool, n: u16, m: u16, kind: Kind, mark: Mark) -> Asked
-    ensures { λ r. ⌜ r ≡ asked shaped (askedAt (kindBelow n (kind .0)) (markBelow m (mark .0))) ⌝ }
-{
-    if shaped {
-        ask_at(n, m, kind, mark)
-    } else {
-        Asked::Refused(Refusal::Shape)
-    }
-}
-
-// The same on tables of numbers.
+// The same after refusal 1, on tables of numbers.
 pub fn ask_place(
     n: u16,
     m: u16,
@@ -148,7 +137,11 @@ pub fn ask_place(
     ensures { λ r. ⌜ r ≡ checked n m (lent (now (links .entry)) (now (rules .entry)) (now (entries .entry)) (now (tally .entry)) (now (disputes .entry))) (kind .0) (mark .0) ⌝ }
 {
     let shaped = shape(n, m, links, rules, entries, tally, disputes);
-    ask(shaped, n, m, kind, mark)
+    if shaped {
+        ask_at(n, m, kind, mark)
+    } else {
+        Asked::Refused(Refusal::Shape)
+    }
 }
 
 // Refusal 2 of an edit of a link, of the child and of the parent.

@@ -1,7 +1,9 @@
 // The find that line controllers written in C put to us.
-use asking::Asked;
+use inheritance::CheckedKind;
+use inheritance::CheckedMark;
 use inheritance::Kind;
 use inheritance::Mark;
+use tables::Refusal;
 ghost use mathlib.Core.Path.{_≡_};
 ghost use Prim.Native.Nat.{_+_, _*_, _<_};
 ghost use lib.ListN.{length, getD};
@@ -21,15 +23,16 @@ fn word(bytes: &[u8], i: usize) -> u16
 }
 
 // The packed answer at a kind and a mark of the book. The entry is not decoded, since a packed answer has it as its upper half;
-// its tests are those of find. None and a dispute are packed alike, so that which of the two it is costs no guess.
+// its tests are those of find. None and a dispute are packed alike, so that which of the two it is costs no guess. The rule of
+// kind entry - 1 stands a row before the place of kind entry: so the product need not wait for a difference.
 fn answer(n: u16, m: u16, rules: &[u8], entries: &[u8], k: Kind, j: Mark) -> u32
     requires { ⌜ Within n m (words16 (now rules)) (words16 (now entries)) k j ⌝ }
     ensures { λ r. ⌜ r ≡ packed (findingOf n (λ o. getD (words16 (now (rules .entry))) (o * m + j .0) 0) (getD (words16 (now (entries .entry))) (k .0 * m + j .0) 0)) ⌝ }
 {
     let entry = word(entries, tables::place(k, j, m));
     if (1 <= entry) & (entry <= n) {
-        let owner = Kind(entry - 1);
-        let handling = word(rules, tables::place(owner, j, m));
+        let row_after = tables::place(Kind(entry), j, m);
+        let handling = word(rules, row_after - m as usize);
         if handling == 0 {
             10
         } else {
@@ -42,7 +45,8 @@ fn answer(n: u16, m: u16, rules: &[u8], entries: &[u8], k: Kind, j: Mark) -> u32
     }
 }
 
-// The tables are bytes, and the answer is one number.
+// The tables are bytes, and the answer is one number. Refusals 2 and 3 are answered where they are found: given on as a value they
+// cost the find a few in 100.
 #[no_mangle]
 pub extern "C" fn lane_find(
     n: u16,
@@ -58,8 +62,14 @@ pub extern "C" fn lane_find(
     ensures { λ r. ⌜ r ≡ findPacked n m (lent (now (links .entry)) (now (rules .entry)) (now (entries .entry)) (now (tally .entry)) (now (disputes .entry))) kind mark ⌝ }
 {
     let shaped = asking::shape_bytes(n, m, links, rules, entries, tally, disputes);
-    match asking::ask(shaped, n, m, Kind(kind), Mark(mark)) {
-        Asked::Refused(why) => why.number() as u32,
-        Asked::At(k, j) => answer(n, m, rules, entries, k, j),
+    if !shaped {
+        return Refusal::Shape.number() as u32;
+    }
+    match Kind::new(kind, n) {
+        CheckedKind::Outside => Refusal::Kind.number() as u32,
+        CheckedKind::Kind(k) => match Mark::new(mark, m) {
+            CheckedMark::Outside => Refusal::Mark.number() as u32,
+            CheckedMark::Mark(j) => answer(n, m, rules, entries, k, j),
+        },
     }
 }

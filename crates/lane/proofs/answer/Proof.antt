@@ -2,6 +2,7 @@
 -- so that the tests that led to a return say which answer is packed there. Assumes nothing.
 use mathlib.Core.Path.{_≡_, refl, sym, ap, _∙_}
 use Prim.Native.Nat.{ℕ, _+_, _-_, _*_, _<_, _≤_}
+use native.Mathlib.Nat.{add-mul}
 use native.Mathlib.Omega.{arith}
 use lib.ListN.{length, getD}
 use denote.Ref.{now}
@@ -48,12 +49,20 @@ rule-here c =
     let tests = simp and-iff at both in
     (leb-true _ _ (tests .0), leb-true _ _ (tests .1))
 
-handling-within : (c : tie.After-place2) → 2 * c .place2 .result + 1 < length (now (before-tests (c .before .before) .args .rules))
+-- the row before that of e is that of e - 1
+row-before : (e m j : ℕ) → 1 ≤ e → e * m + j ≡ m + ((e - 1) * m + j)
+row-before e m j h = let one-more : (e - 1) + 1 ≡ e = omega arith in omega (arith, ap (λ (x : ℕ). x * m) one-more, add-mul (e - 1) 1 m)
+
+place-before : (c : tie.After-place2) → let e = c .before .before in let a = before-tests e .args in
+    c .place2 .result ≡ a .m + ((e .word .result - 1) * a .m + a .j .0)
+place-before c = c .place2 .ensures ∙ row-before _ _ _ (rule-here (c .before) .0)
+
+handling-within : (c : tie.After-place2) → let a = before-tests (c .before .before) .args in 2 * (c .place2 .result - a .m) + 1 < length (now (a .rules))
 handling-within c =
     let within = before-tests (c .before .before) .pre in
     let here = rule-here (c .before) in
     let below : c .before .before .word .result - 1 < before-tests (c .before .before) .args .n = omega arith in
-    joined-within 256 (now (before-tests (c .before .before) .args .rules)) (c .place2 .result) (omega (arith, c .place2 .ensures, within .sizes .rules-size, digits-lt below (within .mark-below)))
+    joined-within 256 (now (before-tests (c .before .before) .args .rules)) _ (omega (arith, place-before c, within .sizes .rules-size, digits-lt below (within .mark-below)))
 
 abbrev in-rule : tie.After-word2 → tie.After-word
 in-rule c = c .before .before .before
@@ -62,15 +71,17 @@ is-rule : (c : tie.After-word2) → finding (in-rule c) ≡ handled (in-rule c .
 is-rule c =
     let e = in-rule c in
     let here = rule-here (c .before .before) in
+    let a = before-tests e .args in
+    let place-is : (e .word .result - 1) * a .m + a .j .0 ≡ c .before .place2 .result - a .m = omega (arith, place-before (c .before)) in
     is-read e
     ∙ finding-rule (before-tests e .args .n) (own e) (e .word .result) (here .0) (here .1)
-    ∙ rw (← c .before .place2 .ensures, ← c .word2 .ensures) refl
+    ∙ ap (handled (e .word .result - 1)) (ap (λ (i : ℕ). getD (words16 (now (before-tests e .args .rules))) i 0) place-is ∙ sym (c .word2 .ensures))
 
 word-requires : tie.Need-word-requires
 word-requires c κs = entry-within c
 
-sub-t15 : tie.Need-sub-t15
-sub-t15 c = rule-here c .0
+sub-word : tie.Need-sub-word
+sub-word c = omega (arith, place-before c)
 
 word-requires-2 : tie.Need-word-requires-2
 word-requires-2 c κs = handling-within c
@@ -99,5 +110,5 @@ returns-4 c =
 pub answer-spec : {M : Type 1} → statement M
 answer-spec =
     tie.close
-    (tie.spec (λ c κs. search needs) word-requires sub-t15 (λ c κs. search needs) word-requires-2 (λ c. search needs) (λ c. search needs)
+    (tie.spec (λ c κs. search needs) word-requires (λ c κs. search needs) sub-word word-requires-2 (λ c. search needs) (λ c. search needs)
     (λ c. search needs) (λ c. search needs) (λ c. search needs) (λ c. search needs) (λ c. search needs) returns returns-2 returns-3 returns-4)
