@@ -13,13 +13,13 @@ use native.Mathlib.Omega.{arith}
 use borrow.Author.Tests.{eq-eqb, ne-eqb, eqb-true}
 use lib.Dec.{eqb}
 use lib.ListN.{getD, replicate, length}
-use Rattle.inheritance.specs.Above.{Chain, link, step, Upto, Acyclic, above}
-use Rattle.inheritance.proofs.AboveLaws.{or-cases, above-chain, chain-above, upto-step}
+use Rattle.inheritance.specs.Above.{Chain, link, step, Upto, Acyclic, above, one-if}
+use Rattle.inheritance.proofs.AboveLaws.{or-cases, above-chain, chain-above, upto-step, count-none, count-some}
 use Rattle.relation.specs.Bit.{bit, Blank}
 use Rattle.arranging.specs.Arranged.{state, unplaced, Joined, Placed, Climbed, Arranged, Arrangement}
 use Rattle.inheritance.proofs.Bools.{same-bool}
 use Rattle.relation.proofs.Zeros.{getD-zeros}
-use Rattle.arranging.proofs.Placing.{count-none, count-some, unplaced-at, placed-none}
+use Rattle.arranging.proofs.Placing.{unplaced-at, placed-none}
 
 pub record Arranging (n : ℕ) (up : ℕ → ℕ → Bool) (c k : ℕ) (states order reach : List ℕ) : Type 0 where
   pub placed : Placed n up k states order reach
@@ -63,7 +63,8 @@ module _ {n : ℕ} {up : ℕ → ℕ → Bool} {states order reach : List ℕ} (
       go : Dec (state states c ≡ 2) → state states c ≡ 2
       go (yes e) = e
       go (no e) =
-          absurd (omega (arith, s .left, count-some (unplaced states) n c l (unplaced-at states c (state states c) refl ∙ rw (ne-eqb (state states c) 2 e) refl)))
+          let still : unplaced states c ≡ true = unplaced-at states c (state states c) refl ∙ rw (ne-eqb (state states c) 2 e) refl in
+          absurd (omega (arith, s .left, count-some (unplaced states) n c l, ap one-if still))
 
   kind : (i : ℕ) → i < n → at i < n
   kind i l = s .kinds i l (omega arith) .0

@@ -1,5 +1,5 @@
 -- The kinds that have a place, while `climb` goes up the links.
---     count-all, -none, -some, -one    counts: all pass; none; some; one more
+--     count-all, count-one             counts: all pass; one more
 --     Widened, widened                 one row has more, and the others are as they were
 --     joined-kept, joined-own          row c: in rows that are the same where it counts; with a place of its own
 --     placed-none                      no kind has a place
@@ -18,7 +18,7 @@ use lib.Dec.{eqb}
 use lib.ListN.{length, getD, set, replicate, length-set, length-replicate}
 use lib.Seq.{getD-set-same, getD-set-other}
 use Rattle.inheritance.specs.Above.{one-if, count}
-use Rattle.inheritance.proofs.AboveLaws.{or-cases, lt-suc-cases, count-same}
+use Rattle.inheritance.proofs.AboveLaws.{or-cases, count-same, count-some, count-changed}
 use Rattle.relation.specs.Bit.{bit, Blank, Added}
 use Rattle.arranging.specs.Arranged.{state, unplaced, Joined, Placed}
 use Rattle.relation.proofs.Stores.{SetAt, set-at}
@@ -32,24 +32,7 @@ count-all f zero h = refl
 count-all f (suc n) h = omega (arith, count-all f n (λ c l. h c (omega arith)), ap one-if (h n (omega arith)))
 
 pub count-one : (f g : ℕ → Bool) (n c : ℕ) → c < n → f c ≡ false → g c ≡ true → ((d : ℕ) → d < n → d ≢ c → f d ≡ g d) → count g n ≡ count f n + 1
-unfolding count
-count-one f g zero c l fc gc same = absurd (omega arith)
-count-one f g (suc n) c l fc gc same =
-    ⊎-elim
-    (λ e. omega (arith, ap one-if (rw e at fc), ap one-if (rw e at gc), count-same f g n (λ d m. same d (omega arith) (omega arith))))
-    (λ m. omega (arith, count-one f g n c m fc gc (λ d j. same d (omega arith)), ap one-if (same n (omega arith) (omega arith))))
-    (lt-suc-cases l)
-
-pub count-none : (f : ℕ → Bool) (n : ℕ) → ((c : ℕ) → c < n → f c ≡ false) → count f n ≡ 0
-unfolding count
-count-none f zero h = refl
-count-none f (suc n) h = omega (arith, count-none f n (λ c l. h c (omega arith)), ap one-if (h n (omega arith)))
-
-pub count-some : (f : ℕ → Bool) (n c : ℕ) → c < n → f c ≡ true → 0 < count f n
-unfolding count
-count-some f zero c l e = absurd (omega arith)
-count-some f (suc n) c l e =
-    ⊎-elim (λ same. omega (arith, ap one-if (rw same at e))) (λ m. omega (arith, count-some f n c m e)) (lt-suc-cases l)
+count-one f g n c l fc gc same = omega (arith, count-changed f g n c l same, ap one-if fc, ap one-if gc)
 
 -- ---- one row
 
@@ -188,7 +171,7 @@ module _ {n : ℕ} {up : ℕ → ℕ → Bool} {k : ℕ} {states order reach : L
 
     -- c is on the way, so some kind has no place
     pub room : state states c ≡ 1 → k < n
-    room way = omega (arith, s .left, count-some (unplaced states) n c lt (unplaced-at states c 1 way))
+    room way = omega (arith, s .left, count-some (unplaced states) n c lt, ap one-if (unplaced-at states c 1 way))
 
     pub placed-more : {new : List ℕ} → state states c ≡ 1 → ((x : ℕ) → x < n → up c x ≡ true → state states x ≡ 2)
         → Joined up reach c n (λ q. ⊥) → Widened c (λ q. eqb q (n - 1 - k)) reach new

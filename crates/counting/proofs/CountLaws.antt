@@ -12,7 +12,7 @@ use mathlib.Core.Path.{_≡_, refl, sym, _∙_, ap, subst}
 use mathlib.Core.Logic.{_≢_, _⊎_, inl, inr, ⊎-elim, by-cases}
 use mathlib.Core.Bool.{Bool, true, false}
 use mathlib.Core.List.{List}
-use Prim.Native.Nat.{ℕ, zero, suc, _+_, _-_, _*_, _<_, _≤_}
+use Prim.Native.Nat.{ℕ, _+_, _-_, _*_, _<_, _≤_}
 use native.Mathlib.Nat.{eq-or-lt-of-le, div-lt-iff-lt-mul}
 use native.Mathlib.Decide.{ℕ-discrete}
 use native.Mathlib.Numerals.{add-one}
@@ -22,7 +22,7 @@ use lib.Arith.{digits-div}
 use lib.ListN.{length, getD, set, replicate, length-set, length-replicate}
 use lib.Seq.{getD-set-same, getD-set-other}
 use Rattle.inheritance.specs.Above.{one-if, count}
-use Rattle.inheritance.proofs.AboveLaws.{count-same}
+use Rattle.inheritance.proofs.AboveLaws.{count-same, count-some, count-changed}
 use Rattle.tables.specs.Tables.{is-dispute, disputesAt, disputesOf}
 use Rattle.tables.proofs.BookLaws.{zeros-at}
 use Rattle.tables.proofs.DisputeLaws.{one-if-few, at-most, length-disputes, disputes-at, disputes-ext}
@@ -91,24 +91,6 @@ counted-length {m} {entries} s = ap length (s .counts-right) ∙ length-disputes
 
 -- ---- one entry changes
 
--- a count with one place tested anew
-count-changed : (f g : ℕ → Bool) (n c : ℕ) → c < n → ((k : ℕ) → k ≢ c → f k ≡ g k) → count g n + one-if (f c) ≡ count f n + one-if (g c)
-unfolding count
-count-changed f g zero c h same = absurd (omega arith)
-count-changed f g (suc n) c h same = ⊎-elim
-    (λ (last : c ≡ n).
-    subst (λ (x : ℕ). count g n + one-if (g n) + one-if (f x) ≡ count f n + one-if (f n) + one-if (g x)) (sym last)
-    (omega (arith, count-same f g n (λ k l. same k (λ e. omega arith)))))
-    (λ (less : c < n). omega (arith, count-changed f g n c less same, ap one-if (same n (λ e. omega arith)))) (eq-or-lt-of-le (omega arith))
-
--- a test that passes is counted
-count-some : (f : ℕ → Bool) (n c : ℕ) → c < n → one-if (f c) ≤ count f n
-unfolding count
-count-some f zero c h = absurd (omega arith)
-count-some f (suc n) c h = ⊎-elim
-    (λ (last : c ≡ n). subst (λ (x : ℕ). one-if (f x) ≤ count f n + one-if (f n)) (sym last) (omega arith))
-    (λ (less : c < n). omega (arith, count-some f n c less)) (eq-or-lt-of-le (omega arith))
-
 module _ (m c j : ℕ) (entries counts : List ℕ) (s : Counted m entries counts) (mark-in : j < m) (place-in : c * m + j < length entries) where
   kind-in : c < s .kinds
   kind-in = rw (digits-div c {m = m} {r = j} mark-in) at (div-lt-iff-lt-mul {k = m} {x = c * m + j} {y = s .kinds} (omega arith) .1 (rw (s .size) at place-in))
@@ -141,7 +123,7 @@ module _ (m c j : ℕ) (entries counts : List ℕ) (s : Counted m entries counts
     unfolding disputesAt
     moved =
         count-changed (λ k. is-dispute (getD entries (k * m + j) 0)) (λ k. is-dispute (getD entries′ (k * m + j) 0)) (s .kinds) c kind-in
-        (λ k ne. ap is-dispute (sym (other k j mark-in (inl ne))))
+        (λ k _ ne. ap is-dispute (sym (other k j mark-in (inl ne))))
         ∙ ap (λ (x : ℕ). disputesAt (s .kinds) m entries j + one-if (is-dispute x)) (getD-set-same entries (c * m + j) v 0 place-in)
 
     kept : (i : ℕ) → i < m → i ≢ j → disputesAt (s .kinds) m entries′ i ≡ disputesAt (s .kinds) m entries i

@@ -6,6 +6,7 @@
 --     chain-trans                       two chains joined; upto-step, upto-chain: the same where the first may have no link
 --     count-le, count-lt                a test that passes more has the larger count
 --     count-same                        tests that agree
+--     count-none, count-some, count-changed     none passes; one that passes is counted; one is tested anew
 --     rank-lt, rank-falls, chain-falls  where no kind is above itself: fewer than n, and fewer at each parent and along each chain
 --     by-parents                        there, what is so of a kind wherever it is so of its parents is so of every kind
 --     no-chain, chainless-acyclic       no kind is above itself just where no chain leads from a kind to itself
@@ -144,6 +145,28 @@ pub count-same : (f g : ℕ → Bool) (n : ℕ) → ((k : ℕ) → k < n → f k
 unfolding count
 count-same f g zero h = refl
 count-same f g (suc n) h = ap₂ (λ (x : ℕ) (b : Bool). x + one-if b) (count-same f g n (λ k l. h k (omega arith))) (h n (omega arith))
+
+pub count-none : (f : ℕ → Bool) (n : ℕ) → ((k : ℕ) → k < n → f k ≡ false) → count f n ≡ 0
+unfolding count
+count-none f zero h = refl
+count-none f (suc n) h = omega (arith, count-none f n (λ k l. h k (omega arith)), ap one-if (h n (omega arith)))
+
+pub count-some : (f : ℕ → Bool) (n c : ℕ) → c < n → one-if (f c) ≤ count f n
+unfolding count
+count-some f zero c l = absurd (omega arith)
+count-some f (suc n) c l =
+    ⊎-elim (λ (last : c ≡ n). omega (arith, ap (λ (x : ℕ). one-if (f x)) last)) (λ (less : c < n). omega (arith, count-some f n c less)) (lt-suc-cases l)
+
+-- a count with one number tested anew
+pub count-changed : (f g : ℕ → Bool) (n c : ℕ) → c < n → ((k : ℕ) → k < n → k ≢ c → f k ≡ g k) → count g n + one-if (f c) ≡ count f n + one-if (g c)
+unfolding count
+count-changed f g zero c l same = absurd (omega arith)
+count-changed f g (suc n) c l same =
+    ⊎-elim
+    (λ (last : c ≡ n).
+    omega (arith, ap (λ (x : ℕ). one-if (f x)) last, ap (λ (x : ℕ). one-if (g x)) last, count-same f g n (λ k m. same k (omega arith) (λ e. omega arith))))
+    (λ (less : c < n).
+    omega (arith, count-changed f g n c less (λ k m. same k (omega arith)), ap one-if (same n (omega arith) (λ e. omega arith)))) (lt-suc-cases l)
 
 abbrev always : ℕ → Bool
 always k = true

@@ -7,7 +7,7 @@
 --     run-keeps                    what every step keeps, a list of steps keeps
 -- Assumes nothing.
 use mathlib.Core.Path.{_≡_, refl, sym, ap, ap₂, _∙_, subst}
-use mathlib.Core.Bool.{Bool, true, false, _&&_, not, false≢true, and-eq-true-iff}
+use mathlib.Core.Bool.{Bool, true, _&&_, not, false≢true, and-eq-true-iff}
 use mathlib.Core.List.{List, [], _∷_, _++_}
 use mathlib.Core.Logic.{by-cases}
 use Prim.Native.Nat.{ℕ, zero, suc, _+_, _*_, _<_, _≤_}
@@ -19,8 +19,8 @@ use borrow.Author.Tests.{ltb-true, not-true}
 use lib.Dec.{eqb, leb, ltb}
 use lib.ListN.{length, getD, replicate, set, length-set, replicate-append-replicate}
 use lib.Seq.{ext-getD}
-use Rattle.inheritance.specs.Above.{Chain, link, step, Acyclic, one-if, count}
-use Rattle.inheritance.proofs.AboveLaws.{chainless-acyclic}
+use Rattle.inheritance.specs.Above.{Chain, link, step, Acyclic, count}
+use Rattle.inheritance.proofs.AboveLaws.{chainless-acyclic, count-none}
 use Rattle.inheritance.proofs.LookupLaws.{lookup-bare}
 use Rattle.tables.specs.Entry.{entryOf}
 use Rattle.tables.specs.Reply.{refused, given}
@@ -93,15 +93,10 @@ unfolding entriesOf entryAt
 none-yet n m up = grid-zeros _ m n λ c j.
     ap entryOf (lookup-bare n up (ownOf m (replicate (n * m) 0) j) (λ k. ap (λ (x : ℕ). not (eqb x 0)) (zeros-at (n * m) (k * m + j))) c)
 
-count-none : (f : ℕ → Bool) (k : ℕ) → ((i : ℕ) → f i ≡ false) → count f k ≡ 0
-unfolding count
-count-none f zero none = refl
-count-none f (suc k) none = omega (arith, count-none f k none, ap one-if (none k))
-
 -- entries of 0 are none of a dispute
 none-disputed : (n m : ℕ) → disputesOf n m (replicate (n * m) 0) ≡ replicate m 0
 unfolding disputesOf disputesAt
-none-disputed n m = listed-zeros _ m λ j. count-none _ n λ c. ap is-dispute (zeros-at (n * m) (c * m + j))
+none-disputed n m = listed-zeros _ m λ j. count-none _ n λ c _. ap is-dispute (zeros-at (n * m) (c * m + j))
 
 zeros-low : (k i : ℕ) → getD (replicate k 0) i 0 ≤ 1
 zeros-low k i = rw (zeros-at k i) (omega arith)
