@@ -1,13 +1,13 @@
 /* Holds every call of a house to docs/SCOPE.md as this file reads it: the kinds seen, those left of them and a plain
    recursive lookup, and the edits by working every entry out anew and counting the disputes anew.
-   All books of up to 3 kinds and 2 marks whose links have no cycle, and many random ones of 4 to 6 kinds and 2 marks:
-   every call on each, with every kind and mark, the first that there is not, and the largest number, and an edit with
-   each of these for some caller and for one that there is not; with each table one too short and one too long, the
-   tally as short as it once was, and disputes of other lengths; and again on the book damaged, with its counts of
-   disputes alone wrong and with other damage beside that, and as it was stored when the lookup was another.
-   Callers, the numbers of the tally and the damage to counts are drawn, so that they meet all the rest and do not
-   multiply it. A few named books have their answers, entries and counts written out as well, and larger tables show the
-   edges of the sizes and the highest counts.
+   All books of up to 3 kinds and 2 marks whose links have no cycle, many random ones of 4 to 6 kinds and 2 marks, and
+   more of 6 kinds with many parents: every call on each, with every kind and mark, the first that there is not, and the
+   largest number, and an edit with each of these for some caller and for one that there is not; with each table one too
+   short and one too long, the tally as short as it once was, and disputes of other lengths; and again on the book
+   damaged, with its counts of disputes alone wrong and with other damage beside that, and as it was stored when the
+   lookup was another. Callers, the numbers of the tally and the damage to counts are drawn, so that they meet all the
+   rest and do not multiply it. A few named books have their answers, entries and counts written out as well, and larger
+   tables show the edges of the sizes and the highest counts.
    It fails where a call differs, and where an answer of a call or a sort of damage came up too seldom. */
 
 #include <stdio.h>
@@ -250,12 +250,20 @@ static uint32_t change_link(struct book *b, enum call call, struct arguments a) 
     return accepted(b, a.caller);
 }
 
-/* Some two different kinds left will do: what the library gave, if it is that. */
-static uint32_t parties(const struct book *b, struct arguments a, uint32_t given) {
-    unsigned one = given / 256, other = given % 256;
+/* How often there were parties, of more than two kinds left, and with a lower kind seen that is not left. */
+static unsigned long more_left, lower_hidden;
+
+/* The lowest kind left, then the second lowest. */
+static uint32_t parties(const struct book *b, struct arguments a) {
+    unsigned pair = 0, kinds = 0, hidden = 0;
     if (b->entries[a.x * b->m + a.y] < 257) return HOUSE_REFUSED_NO_DISPUTE;
-    int right = one != other && one < b->n && other < b->n && left(b, a.x, one, a.y) && left(b, a.x, other, a.y);
-    return right ? given : UINT32_MAX;
+    for (unsigned o = 0; o < b->n; o++) {
+        if (left(b, a.x, o, a.y) && ++kinds <= 2) pair = 256 * pair + o;
+        if (kinds < 2 && seen(b, a.x, o, a.y) && !left(b, a.x, o, a.y)) hidden = 1;
+    }
+    more_left += kinds > 2;
+    lower_hidden += hidden;
+    return pair;
 }
 
 /* The refusals of an argument by itself. */
@@ -270,14 +278,14 @@ static uint32_t wrong_argument(const struct book *b, enum call call, struct argu
 
 /* What a call should answer on a book of the right lengths where inspect should say `fault`; the book becomes what it
    should leave. */
-static uint32_t expect(enum call call, struct book *b, struct arguments a, uint32_t fault, uint32_t given) {
+static uint32_t expect(enum call call, struct book *b, struct arguments a, uint32_t fault) {
     uint32_t refusal = wrong_argument(b, call, a);
     if (refusal != 0) return refusal;
     if (call == OPEN) return emptied(lend(b));
     if (call == INSPECT) return fault;
     if (fault != HOUSE_SOUND && (call != REFRESH || fault < HOUSE_WRONG_ENTRY)) return HOUSE_REFUSED_UNSOUND;
     if (call == REFRESH) return work_out(b);
-    if (call == PARTIES) return parties(b, a, given);
+    if (call == PARTIES) return parties(b, a);
     return call == ADD_RULE || call == TAKE_RULE ? change_rule(b, call, a) : change_link(b, call, a);
 }
 
@@ -344,7 +352,7 @@ static void try_call(enum call call, const struct book *b, struct arguments a, u
     struct book ours = *b, theirs = *b;
     struct lent t = lend(&theirs);
     uint32_t given = counted(call, &t, a);
-    if (expect(call, &ours, a, fault, given) != given || memcmp(&ours, &theirs, sizeof ours) != 0)
+    if (expect(call, &ours, a, fault) != given || memcmp(&ours, &theirs, sizeof ours) != 0)
         fail(calls[call].name, b);
     if (is_edit(call)) hold_other_marks(call, b, &theirs);
 }
@@ -526,6 +534,21 @@ static int make_book(struct book *b, uint16_t n, uint16_t m, unsigned long links
     return 1;
 }
 
+/* Links as bits, from kinds to those before them in an order that is drawn, so that none makes a cycle: one in four of
+   those between the first four kinds, and most of those from the others, which so have many parents. */
+static unsigned long ordered_links(unsigned n) {
+    unsigned order[KINDS];
+    unsigned long links = 0;
+    for (unsigned i = 0; i < n; i++) {
+        unsigned at = (unsigned)chance() % (i + 1);
+        order[i] = order[at];
+        order[at] = i;
+    }
+    for (unsigned i = 0; i < n * n; i++)
+        if (i % n < i / n && chance() % 8 < (i / n < 4 ? 2 : 7)) links |= 1ul << (order[i / n] * n + order[i % n]);
+    return links;
+}
+
 /* ---- named books: a link is a child and its parent, a rule its kind and handling, for mark 0 */
 
 struct pair {
@@ -631,6 +654,25 @@ static void try_stored_diamond(void) {
     hold_entries("an edit of the diamond brought over", &lent, after);
 }
 
+/* Kind 4 is under kinds 0 to 3, all with rules, and kind 1 under kind 0, which it hides: kinds 1, 2 and 3 are left, at
+   kind 5 below kind 4 too. Without the rule of kind 1 it is 0, 2 and 3; without the link to kind 2 it is 1 and 3. */
+static void try_parties(void) {
+    static const struct pair links[] = {{1, 0}, {4, 0}, {4, 1}, {4, 2}, {4, 3}, {5, 4}},
+                             rules[] = {{0, 10}, {1, 20}, {2, 20}, {3, 30}};
+    static const uint16_t entries[] = {1, 2, 3, 4, 261, 261, 2};
+    static const struct step steps[] = {
+        {PARTIES, {0, 4, 0, 0}, 256 * 1 + 2}, {PARTIES, {0, 5, 0, 0}, 256 * 1 + 2},
+        {TAKE_RULE, {0, 1, 0, 0}, 1},         {PARTIES, {0, 4, 0, 0}, 256 * 0 + 2},
+        {ADD_RULE, {0, 1, 0, 20}, 1},         {PARTIES, {0, 4, 0, 0}, 256 * 1 + 2},
+        {TAKE_LINK, {0, 4, 2, 0}, 0},         {PARTIES, {0, 5, 0, 0}, 256 * 1 + 3},
+        {TAKE_LINK, {0, 4, 3, 0}, 2},         {PARTIES, {0, 4, 0, 0}, HOUSE_REFUSED_NO_DISPUTE},
+    };
+    struct book b = named_book(6, 1, links, MANY(links), rules, MANY(rules));
+    hold_entries("parties", &b, entries);
+    try_book(&b);
+    hold_answers("parties", &b, steps, MANY(steps));
+}
+
 /* A session with the counts of both marks after each call. Kind 2 is under kinds 0 and 1, and kind 3 under kind 2: a
    rule at kind 3 ends one of two disputes; kind 3 under kind 0 too is disputed at itself, and the count stays. */
 static void try_counted_session(void) {
@@ -708,6 +750,23 @@ static void try_sizes_at_the_edges(void) {
     }
 }
 
+/* Parties with any two numbers that the largest book has: a kind of another number is put under both, for the last
+   mark. */
+static void try_parties_of_the_largest(void) {
+    static const struct pair pairs[] = {{0, 1}, {0, 127}, {1, 63}, {62, 64}, {63, 64}, {64, 65}, {126, 127}};
+    for (size_t i = 0; i < MANY(pairs); i++) {
+        uint16_t one = pairs[i].one, other = pairs[i].other, kind = 100;
+        struct lent t = fitting(&room, 128, 64);
+        uint32_t refused = counted(OPEN, &t, good);
+        refused |= counted(ADD_LINK, &t, (struct arguments){0, kind, other, 0});
+        refused |= counted(ADD_LINK, &t, (struct arguments){0, kind, one, 0});
+        refused |= counted(ADD_RULE, &t, (struct arguments){0, other, 63, 20}) - 2;
+        refused |= counted(ADD_RULE, &t, (struct arguments){0, one, 63, 20}) - 2;
+        if (refused != 0 || counted(PARTIES, &t, (struct arguments){0, kind, 63, 0}) != 256u * one + other)
+            fail_at("parties", 128, 64);
+    }
+}
+
 /* NULL with 0 elements is refused, for all tables and for disputes alone. */
 static void try_null(void) {
     struct lent none = {4, 2, NULL, NULL, NULL, NULL, NULL, {0, 0, 0, 0, 0}}, rest = fitting(&room, 4, 2);
@@ -781,11 +840,14 @@ static int rare(unsigned long times, const char *what, unsigned number) {
     return times < 1000;
 }
 
-/* Every refusal of every call came up often, with 0 for none, and so did every fault and every sort of wrong counts. */
+/* Every refusal of every call came up often, with 0 for none, and so did every fault, every sort of wrong counts and
+   parties that tell the two lowest kinds left from other pairs. */
 static void hold_often(void) {
     int any = rare(old_books, "other entries by the old lookup", 0);
     any |= rare(counts_moved, "an edit that changes a count", 0);
     any |= rare(counts_kept, "an edit that changes entries and no count", 0);
+    any |= rare(more_left, "parties of more than two kinds left", 0);
+    any |= rare(lower_hidden, "parties where a lower kind is seen and not left", 0);
     for (enum call call = 0; call < CALLS; call++)
         for (size_t i = 0; i < MANY(calls[call].refusals); i++) {
             unsigned refusal = calls[call].refusals[i];
@@ -807,12 +869,16 @@ int main(void) {
     while (books < all + 15000)
         if (make_book(&b, (uint16_t)(books % 10 == 9 ? 6 : 4 + books % 2), 2, chance() & chance(), chance()))
             try_book(&b);
+    while (books < all + 15000 + 6000)
+        if (make_book(&b, KINDS, 2, ordered_links(KINDS), chance())) try_book(&b);
     try_link_past_own_rule();
     try_rule_past_same_entry();
     try_stored_diamond();
+    try_parties();
     try_counted_session();
     try_sizes_outside();
     try_sizes_at_the_edges();
+    try_parties_of_the_largest();
     try_null();
     try_highest_counts();
     hold_often();

@@ -147,14 +147,13 @@ uint32_t house_refresh(uint16_t n, uint16_t m, const uint8_t *links, size_t link
 
 /* ---- parties */
 
-/* Two of the kinds left at a kind and a mark that are in dispute: whose rules a person has to choose between. The two
-   are different. Which two of several, and which of them is the one and which the other, is not promised. Answers
-   256 * one + the other. Refusals: 1, 2, 3, 5, 11. */
+/* The two lowest of the kinds left at a kind and a mark that are in dispute: whose rules a person has to choose between.
+   Answers 256 * the lowest + the second lowest. Refusals: 1, 2, 3, 5, 11. */
 uint32_t house_parties(uint16_t n, uint16_t m, const uint8_t *links, size_t links_len, const uint16_t *rules,
                        size_t rules_len, const uint16_t *entries, size_t entries_len, const uint32_t *tally,
                        size_t tally_len, const uint16_t *disputes, size_t disputes_len, uint16_t kind, uint16_t mark);
 
-/* The two kinds. A refusal has none. */
+/* The two kinds, the lowest and the second lowest. A refusal has none. */
 static inline uint16_t house_one(uint32_t answer) {
     return (uint16_t)(answer / 256);
 }

@@ -85,15 +85,14 @@ static void show_disputes(const struct book *b, uint16_t mark) {
     printf("  kinds in dispute for mark %d: %d\n", mark, b->disputes[mark]);
 }
 
-/* Prints who is in dispute. Which of the two comes first is not promised, so the lower kind is printed first. */
+/* Prints who is in dispute. */
 static void show_parties(const struct book *b, uint16_t kind, uint16_t mark) {
     uint32_t answer = house_parties(LENT(b), kind, mark);
     if (house_is_refusal(answer)) {
         tell("parties", answer);
         return;
     }
-    int one = house_one(answer), other = house_other(answer);
-    printf("  between the rules of kinds %d and %d\n", one < other ? one : other, one < other ? other : one);
+    printf("  between the rules of kinds %d and %d\n", house_one(answer), house_other(answer));
 }
 
 static void inspect(const struct book *b) {

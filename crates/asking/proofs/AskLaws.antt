@@ -3,6 +3,7 @@
 --     admitted                               the same of kind, mark and tables, as what comes after requires it
 --     at-passes, link-passes, caller-passes        the refusals of a call that was let through
 --     at-refuses, link-refuses, caller-refuses     .. and of one that was not
+--     place-passes, place-refuses, place-is  refusals 1, 2 and 3 of a call on a kind and a mark of a book
 --     find-at, find-refused                  find by these cases
 -- Assumes nothing.
 use mathlib.Core.Path.{_≡_, refl, ap}
@@ -154,6 +155,29 @@ module _ (n m : ℕ) (t : Tables) (c : ℕ) where
         go true false e = let w : Refusal.Caller ≡ why = cc in rw (← w) refl
         go true true e = let z : _≡_ {A = ℕ} 0 1 = cc in absurd (omega arith)
 
+-- ---- a call on a kind and a mark of a book
+
+module _ (n m : ℕ) (t : Tables) (c i : ℕ) where
+  module _ {A : Type 0} (next : Outcome A) where
+    pub place-passes : {k : Kind} {j : Mark} → checked n m t c i ≡ Asked.At k j
+        → check 1 (shaped n m t) t (check 2 (ltb c n) t (check 3 (ltb i m) t next)) ≡ next
+    unfolding check
+    place-passes e = let (fits, at) = let-through (shaped n m t) e in rw fits (at-passes n m c i t next at)
+
+    pub place-refuses : {why : Refusal} → checked n m t c i ≡ Asked.Refused why
+        → check 1 (shaped n m t) t (check 2 (ltb c n) t (check 3 (ltb i m) t next)) ≡ leaves (refused (refusalNumber why)) t
+    unfolding check
+    place-refuses {why} e = go (shaped n m t) e
+      where
+        go : (s : Bool) → asked s (askedAt (kindBelow n c) (markBelow m i)) ≡ Asked.Refused why
+            → check 1 s t (check 2 (ltb c n) t (check 3 (ltb i m) t next)) ≡ leaves (refused (refusalNumber why)) t
+        go false e = let w : Refusal.Shape ≡ why = cc in rw (← w) refl
+        go true e = at-refuses n m c i t next e
+
+  -- the kind and the mark are the numbers asked for
+  pub place-is : {k : Kind} {j : Mark} → checked n m t c i ≡ Asked.At k j → (k ≡ kind c) × (j ≡ mark i)
+  place-is e = let p = asked-at n m c i (let-through (shaped n m t) e .1) in (p .the-kind, p .the-mark)
+
 -- ---- find
 
 -- the answer at kind c and mark i
@@ -163,19 +187,10 @@ findingAt n m t c i = findingOf n (λ o. getD (t .rules) (o * m + i) 0) (getD (t
 module _ (n m : ℕ) (t : Tables) (c i : ℕ) where
   pub find-at : {k : Kind} {j : Mark} → checked n m t c i ≡ Asked.At k j
       → find n m t c i .reply ≡ findingAt n m t (k .0) (j .0)
-  unfolding find check
-  find-at e =
-      let (fits, at) = let-through (shaped n m t) e in
-      let p = asked-at n m c i at in
-      rw (p .the-kind, p .the-mark, fits)
-      (ap (λ (o : Outcome Finding). o .reply) (at-passes n m c i t (leaves (findingAt n m t c i) t) at))
+  unfolding find
+  find-at e = let (k-is, j-is) = place-is n m t c i e in rw (k-is, j-is) (ap (λ (o : Outcome Finding). o .reply) (place-passes n m t c i _ e))
 
   pub find-refused : {why : Refusal} → checked n m t c i ≡ Asked.Refused why
       → find n m t c i .reply ≡ refused (refusalNumber why)
-  unfolding find check
-  find-refused {why} e = go (shaped n m t) e
-    where
-      go : (s : Bool) → asked s (askedAt (kindBelow n c) (markBelow m i)) ≡ Asked.Refused why
-          → check 1 s t (check 2 (ltb c n) t (check 3 (ltb i m) t (leaves (findingAt n m t c i) t))) .reply ≡ refused (refusalNumber why)
-      go false e = let w : Refusal.Shape ≡ why = cc in rw (← w) refl
-      go true e = ap (λ (o : Outcome Finding). o .reply) (at-refuses n m c i t (leaves (findingAt n m t c i) t) e)
+  unfolding find
+  find-refused e = ap (λ (o : Outcome Finding). o .reply) (place-refuses n m t c i _ e)

@@ -3,7 +3,8 @@ use edits::make;
 use tables::Answer;
 use tables::Call;
 use tables::Request;
-ghost use Rattle.tables.specs.Books.{Carried, callOf, answered};
+ghost use mathlib.Core.Path.{_≡_};
+ghost use Rattle.tables.specs.Books.{callOf, answered, gives, outcome};
 ghost use Rattle.tables.specs.Tables.{lent};
 pub use disputing::parties;
 pub use edits::add_link;
@@ -24,8 +25,8 @@ pub fn carry_out(
     tally: &mut [u32],
     disputes: &mut [u16],
 ) -> Answer
-    ensures { λ r. ⌜ Carried (callOf call) (lent (now (links .entry)) (now (rules .entry)) (now (entries .entry)) (now (tally .entry)) (now (disputes .entry)))
-        (answered r) (lent (now (links .exit)) (now (rules .exit)) (now (entries .exit)) (now (tally .exit)) (now (disputes .exit))) ⌝ }
+    ensures { λ r. ⌜ gives (answered r) (lent (now (links .exit)) (now (rules .exit)) (now (entries .exit)) (now (tally .exit)) (now (disputes .exit)))
+        ≡ outcome (callOf call) (lent (now (links .entry)) (now (rules .entry)) (now (entries .entry)) (now (tally .entry)) (now (disputes .entry))) ⌝ }
 {
     let n = call.n;
     let m = call.m;

@@ -1,15 +1,14 @@
--- What the parts of parties ask and ensure.
---     Disputing     what parties gives once refusals 1, 2 and 3 are past
+-- Parties in the parts that the code has.
+--     partiesAt     parties from refusal 5 on, at a kind and a mark of the book
 -- Assumes nothing.
 use Prim.Native.Nat.{ℕ, _+_, _*_}
-use lib.Dec.{leb}
 use lib.ListN.{getD}
-use Rattle.tables.specs.Calls.{Check, TwoParties}
-use Rattle.tables.specs.Reply.{Reply, TwoKinds}
-use Rattle.tables.specs.Tables.{Tables, sound}
+use Rattle.tables.specs.Calls.{Outcome, leaves, check, kindsLeft, lowestTwo}
+use Rattle.tables.specs.Reply.{given, TwoKinds}
+use Rattle.tables.specs.Tables.{Tables, is-dispute, sound}
 
-abbrev pub Disputing : (n m : ℕ) → Tables → (kind mark : ℕ) → Reply TwoKinds → Type 0
-Disputing n m t kind mark reply =
-    Check 5 (sound n m t) reply
-    (Check 11 (leb 257 (getD (t .entries) (kind * m + mark) 0)) reply
-    (TwoParties n m t kind mark reply))
+unfoldable pub partiesAt : (n m : ℕ) → Tables → (kind mark : ℕ) → Outcome TwoKinds
+partiesAt n m t kind mark =
+    check 5 (sound n m t) t
+    (check 11 (is-dispute (getD (t .entries) (kind * m + mark) 0)) t
+    (leaves (given (lowestTwo (kindsLeft n m t kind mark))) t))

@@ -1,4 +1,4 @@
-// Parties: two different kinds left at a kind whose entry is a dispute, those with the lowest numbers.
+// Parties: the two lowest kinds left at a kind whose entry is a dispute.
 use asking::Asked;
 use inheritance::Kind;
 use inheritance::Mark;
@@ -9,10 +9,10 @@ ghost use mathlib.Core.List.{List};
 ghost use Prim.Native.Nat.{ℕ, _*_};
 ghost use lib.ListN.{length};
 ghost use Rattle.asking.specs.Ask.{Within};
-ghost use Rattle.tables.specs.Calls.{PartiesGive};
+ghost use Rattle.tables.specs.Calls.{parties};
 ghost use Rattle.tables.specs.Reply.{paired};
 ghost use Rattle.tables.specs.Tables.{lent};
-ghost use Rattle.disputing.specs.Parties.{Disputing};
+ghost use Rattle.disputing.specs.Parties.{partiesAt};
 
 // The answer at a kind and a mark of the book.
 fn answer(
@@ -26,7 +26,7 @@ fn answer(
     j: Mark,
 ) -> Pair
     requires { ⌜ (Within n m (now rules) (now entries) k j) × (length (now links) ≡ n * n) × (length (now disputes) ≡ m) ⌝ }
-    ensures { λ r. ⌜ ((tally : List ℕ) → Disputing n m (lent (now (links .entry)) (now (rules .entry)) (now (entries .entry)) tally (now (disputes .entry))) (k .0) (j .0) (paired r)) ⌝ }
+    ensures { λ r. ⌜ ((tally : List ℕ) → paired r ≡ partiesAt n m (lent (now (links .entry)) (now (rules .entry)) (now (entries .entry)) tally (now (disputes .entry))) (k .0) (j .0) .reply) ⌝ }
 {
     let mut rows = [0u64; 256];
     let mut order = [0u8; 128];
@@ -53,7 +53,7 @@ fn answer(
     parting::left_pair(&order, &reach, &ruled, n as usize, k, j)
 }
 
-// Some two different kinds left at the kind.
+// The lowest kind left at the kind, then the second lowest.
 pub fn parties(
     n: u16,
     m: u16,
@@ -65,7 +65,7 @@ pub fn parties(
     kind: Kind,
     mark: Mark,
 ) -> Pair
-    ensures { λ r. ⌜ PartiesGive n m (lent (now (links .entry)) (now (rules .entry)) (now (entries .entry)) (now (tally .entry)) (now (disputes .entry))) (kind .0) (mark .0) (paired r) ⌝ }
+    ensures { λ r. ⌜ paired r ≡ parties n m (lent (now (links .entry)) (now (rules .entry)) (now (entries .entry)) (now (tally .entry)) (now (disputes .entry))) (kind .0) (mark .0) .reply ⌝ }
 {
     match asking::ask_place(n, m, links, rules, entries, tally, disputes, kind, mark) {
         Asked::Refused(why) => Pair::Refused(why),

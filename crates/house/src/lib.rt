@@ -7,9 +7,9 @@ use packing::pack_opened;
 use packing::pack_pair;
 use tables::Caller;
 ghost use mathlib.Core.Path.{_≡_};
-ghost use Rattle.tables.specs.Calls.{openBook, addRule, takeRule, addLink, takeLink, inspect, refresh};
+ghost use Rattle.tables.specs.Calls.{openBook, addRule, takeRule, addLink, takeLink, parties, inspect, refresh};
 ghost use Rattle.tables.specs.Tables.{lent};
-ghost use Rattle.packing.specs.Packed.{packedOpened, packedEdited, packedFault, Answers, GivesPair};
+ghost use Rattle.packing.specs.Packed.{packedOpened, packedEdited, packedPair, packedFault, Answers};
 
 // Open.
 #[no_mangle]
@@ -170,7 +170,7 @@ pub extern "C" fn house_parties(
     kind: u16,
     mark: u16,
 ) -> u32
-    ensures { λ r. ⌜ GivesPair n m (lent (now (links .entry)) (now (rules .entry)) (now (entries .entry)) (now (tally .entry)) (now (disputes .entry))) kind mark r ⌝ }
+    ensures { λ r. ⌜ r ≡ packedPair (parties n m (lent (now (links .entry)) (now (rules .entry)) (now (entries .entry)) (now (tally .entry)) (now (disputes .entry))) kind mark .reply) ⌝ }
 {
     pack_pair(calls::parties(
         n,

@@ -67,7 +67,8 @@ passing-same f g (suc k) agree = ap₂ _++_ (passing-same f g k (λ j l. agree j
 data Few (f : ℕ → Bool) (n : ℕ) : List ℕ → Type 0 where
   no-kind : ((j : ℕ) → j < n → f j ≡ true → ⊥) → Few f n []
   one-kind : {o : ℕ} → o < n → f o ≡ true → ((j : ℕ) → j < n → f j ≡ true → j ≡ o) → Few f n (o ∷ [])
-  two-kinds : {o o′ : ℕ} {os : List ℕ} → o < n → o′ < n → f o ≡ true → f o′ ≡ true → o < o′ → Few f n (o ∷ o′ ∷ os)
+  two-kinds : {o o′ : ℕ} {os : List ℕ} → o < n → o′ < n → f o ≡ true → f o′ ≡ true → o < o′ → ((j : ℕ) → j < o′ → f j ≡ true → j ≡ o)
+      → Few f n (o ∷ o′ ∷ os)
 
 module _ (f : ℕ → Bool) where
   earlier : {j k : ℕ} → f k ≡ false → j < suc k → f j ≡ true → j < k
@@ -76,27 +77,27 @@ module _ (f : ℕ → Bool) where
   few-more : {k : ℕ} {os : List ℕ} → Few f k os → (b : Bool) → f k ≡ b → Few f (suc k) (os ++ (elim b [ true ↦ k ∷ [] | false ↦ [] ]))
   few-more {k} (no-kind h) true e = one-kind {o = k} (omega arith) e (λ j l p. ⊎-elim (λ q. q) (λ m. absurd (h j m p)) (lt-suc-cases l))
   few-more {k} (no-kind h) false e = no-kind (λ j l p. h j (earlier e l p) p)
-  few-more {k} (one-kind {o} l p only) true e = two-kinds {o = o} {o′ = k} (omega arith) (omega arith) p e l
+  few-more {k} (one-kind {o} l p only) true e = two-kinds {o = o} {o′ = k} (omega arith) (omega arith) p e l only
   few-more {k} (one-kind {o} l p only) false e = one-kind {o = o} (omega arith) p (λ j m q. only j (earlier e m q) q)
-  few-more {k} (two-kinds {o} {o′} l l′ p p′ q) b e = two-kinds {o = o} {o′ = o′} (omega arith) (omega arith) p p′ q
+  few-more {k} (two-kinds {o} {o′} l l′ p p′ q lowest) b e = two-kinds {o = o} {o′ = o′} (omega arith) (omega arith) p p′ q lowest
 
   few : (n : ℕ) → Few f n (passing f n)
   unfolding passing
   few zero = no-kind (λ j l p. not-suc-le-zero l)
   few (suc k) = few-more (few k) (f k) refl
 
--- none passes, one does, or two do
+-- none passes, one does, or two do, of which no other is below the second
 pub passing-cases : (P : List ℕ → Type 0) (f : ℕ → Bool) (n : ℕ)
     → (((o : ℕ) → o < n → f o ≡ true → ⊥) → P [])
     → ((o : ℕ) → o < n → f o ≡ true → ((o′ : ℕ) → o′ < n → f o′ ≡ true → o′ ≡ o) → P (o ∷ []))
-    → ((o o′ : ℕ) (os : List ℕ) → o < n → o′ < n → f o ≡ true → f o′ ≡ true → o < o′ → P (o ∷ o′ ∷ os))
+    → ((o o′ : ℕ) (os : List ℕ) → o < n → o′ < n → f o ≡ true → f o′ ≡ true → o < o′ → ((j : ℕ) → j < o′ → f j ≡ true → j ≡ o) → P (o ∷ o′ ∷ os))
     → P (passing f n)
 passing-cases P f n none one two = by-few (few f n)
   where
     by-few : {os : List ℕ} → Few f n os → P os
     by-few (no-kind h) = none h
     by-few (one-kind {o} l p only) = one o l p only
-    by-few (two-kinds {o} {o′} {os} l l′ p p′ q) = two o o′ os l l′ p p′ q
+    by-few (two-kinds {o} {o′} {os} l l′ p p′ q lowest) = two o o′ os l l′ p p′ q lowest
 
 -- what the numbers that pass decide
 pub decided-cases : (P : Lookup → Type 0) (f : ℕ → Bool) (n : ℕ) (v : Lookup)
@@ -104,7 +105,7 @@ pub decided-cases : (P : Lookup → Type 0) (f : ℕ → Bool) (n : ℕ) (v : Lo
     → ((o : ℕ) → o < n → f o ≡ true → ((o′ : ℕ) → o′ < n → f o′ ≡ true → o′ ≡ o) → P (Rule (kind o)))
     → ((o o′ : ℕ) → o < n → o′ < n → f o ≡ true → f o′ ≡ true → o < o′ → P v)
     → P (decided (passing f n) v)
-decided-cases P f n v none one two = passing-cases (λ os. P (decided os v)) f n none one (λ o o′ os. two o o′)
+decided-cases P f n v none one two = passing-cases (λ os. P (decided os v)) f n none one (λ o o′ os l l′ p p′ q _. two o o′ l l′ p p′ q)
 
 -- ---- a dispute
 

@@ -2,13 +2,12 @@
 --     packedOpened    0 for an accepted open
 --     packedEdited    the count
 --     packedPair      256 × one + the other
---     GivesPair       some reply that parties may give, packed
 --     Answers         a call's outcome as programs in C get it: one number, and the tables that it leaves
 --     packedFault     sound is 0; a link byte's place, a kind, an entry's place and a mark are told apart by their upper half
 -- Assumes nothing.
 use mathlib.Core.Path.{_≡_}
 use Prim.Native.Nat.{ℕ, _+_, _*_}
-use Rattle.tables.specs.Calls.{Outcome, PartiesGive}
+use Rattle.tables.specs.Calls.{Outcome}
 use Rattle.tables.specs.Reply.{Reply, refused, given, Fault, TwoKinds}
 use Rattle.tables.specs.Tables.{Tables}
 
@@ -31,12 +30,6 @@ packedFault (given (Fault.link-byte place)) = 131072 + place
 packedFault (given (Fault.above-itself kind)) = 196608 + kind
 packedFault (given (Fault.wrong-entry place)) = 262144 + place
 packedFault (given (Fault.wrong-count mark)) = 327680 + mark
-
--- the number is that of some reply that parties may give
-pub record GivesPair (n m : ℕ) (t : Tables) (kind mark : ℕ) (r : ℕ) : Type 0 where
-  pub reply : Reply TwoKinds
-  pub gives : PartiesGive n m t kind mark reply
-  pub packs : r ≡ packedPair reply
 
 -- the number that is returned and the tables at the end are those of the outcome
 pub record Answers {A : Type 0} (pack : Reply A → ℕ) (outcome : Outcome A) (number : ℕ) (tables : Tables) : Type 0 where

@@ -34,7 +34,7 @@ use Rattle.tables.specs.declared.Pair.{Pair}
 use Rattle.tables.specs.declared.Refusal.{Refusal}
 use Rattle.tables.specs.Tables.{ownOf}
 use Rattle.deciding.specs.Deciding.{Prepared, common}
-use Rattle.parting.specs.Parting.{Orderly, hidden, LeftGathered, lowestTwo}
+use Rattle.parting.specs.Parting.{Orderly, hidden, LeftGathered, pairOf}
 use Rattle.deciding.proofs.DecidingLaws.{reach-upto, both-near, near-place}
 
 pub orderly : {n m : ℕ} {rows rules order reach ruled : List ℕ} → Prepared n m rows rules order reach ruled → Orderly n order
@@ -196,8 +196,8 @@ module _ (f g : ℕ → Bool) (n : ℕ) (same : (i : ℕ) → i < n → g i ≡ 
   gone : {from r : ℕ} → First g from 128 r → (i : ℕ) → from ≤ i → i < r → i < n → f i ≡ false
   gone s i a b h = sym (same i h) ∙ s .none i a b
 
-  pub pair-none : {a : ℕ} → First g 0 128 a → n ≤ a → Pair.Refused Refusal.NoDispute ≡ lowestTwo (passing f n)
-  pair-none s l = sym (ap lowestTwo (passing-none f n (λ i h. gone s i (omega arith) (omega arith) h)))
+  pub pair-none : {a : ℕ} → First g 0 128 a → n ≤ a → Pair.Refused Refusal.NoDispute ≡ pairOf (passing f n)
+  pair-none s l = sym (ap pairOf (passing-none f n (λ i h. gone s i (omega arith) (omega arith) h)))
 
   module _ {a b : ℕ} (s : First g 0 128 a) (a<n : a < n) (most : n ≤ 128) (t : First g (a + 1) 128 b) where
     head : passing f n ≡ a ∷ passing (past f a) n
@@ -206,10 +206,10 @@ module _ (f g : ℕ → Bool) (n : ℕ) (same : (i : ℕ) → i < n → g i ≡ 
     off : (i : ℕ) → i < b → i < n → past f a i ≡ false
     off i h l = by-cases (decLt a i) (λ less. rw (lt-ltb a i less) (gone t i (omega arith) h l)) (λ more. past-off f a i (omega arith))
 
-    pub pair-one : n ≤ b → Pair.Refused Refusal.NoDispute ≡ lowestTwo (passing f n)
-    pair-one l = sym (ap lowestTwo (head ∙ ap (λ (xs : List ℕ). a ∷ xs) (passing-none (past f a) n (λ i h. off i (omega arith) h))))
+    pub pair-one : n ≤ b → Pair.Refused Refusal.NoDispute ≡ pairOf (passing f n)
+    pair-one l = sym (ap pairOf (head ∙ ap (λ (xs : List ℕ). a ∷ xs) (passing-none (past f a) n (λ i h. off i (omega arith) h))))
 
-    pub pair-two : b < n → Pair.Kinds (kind a) (kind b) ≡ lowestTwo (passing f n)
+    pub pair-two : b < n → Pair.Kinds (kind a) (kind b) ≡ pairOf (passing f n)
     pair-two l =
         let is : past f a b ≡ true = rw (lt-ltb a b (omega (arith, t .low))) (sym (same b l) ∙ t .found (omega arith)) in
-        sym (ap lowestTwo (head ∙ ap (λ (xs : List ℕ). a ∷ xs) (passing-head (past f a) b n l is (λ i h. off i h (omega arith)))))
+        sym (ap pairOf (head ∙ ap (λ (xs : List ℕ). a ∷ xs) (passing-head (past f a) b n l is (λ i h. off i h (omega arith)))))

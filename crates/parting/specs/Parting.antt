@@ -2,7 +2,7 @@
 --     Orderly       the places below n have different kinds below n
 --     hidden        the kind at place i is above the kind at an earlier common place, if i is one too
 --     LeftGathered      the places below i are gone through: row 0 has the kinds left, row 1 the places that the kinds at common places reach
---     lowestTwo     the two lowest kinds of a list, in the order of their numbers
+--     pairOf        the first two kinds of a list, as parties answers them
 -- Assumes nothing.
 use mathlib.Core.Path.{_≡_}
 use mathlib.Core.Bool.{Bool, _&&_, not}
@@ -31,7 +31,7 @@ pub record LeftGathered (n : ℕ) (order reach ruled : List ℕ) (c j i : ℕ) (
   pub places : (q : ℕ) → q < 128 → bit new 1 q ≡ hidden order reach ruled c j i q
 
 -- where there are fewer than two, there is no dispute
-abbrev pub lowestTwo : List ℕ → Pair
-lowestTwo [] = Pair.Refused Refusal.NoDispute
-lowestTwo (a ∷ []) = Pair.Refused Refusal.NoDispute
-lowestTwo (a ∷ b ∷ os) = Pair.Kinds (kind a) (kind b)
+abbrev pub pairOf : List ℕ → Pair
+pairOf [] = Pair.Refused Refusal.NoDispute
+pairOf (a ∷ []) = Pair.Refused Refusal.NoDispute
+pairOf (a ∷ b ∷ os) = Pair.Kinds (kind a) (kind b)

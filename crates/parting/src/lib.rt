@@ -17,7 +17,7 @@ ghost use Rattle.inheritance.specs.Lookup.{left, passing};
 ghost use Rattle.relation.specs.Bit.{bit, Blank, Added};
 ghost use Rattle.tables.specs.Tables.{ownOf};
 ghost use Rattle.deciding.specs.Deciding.{Prepared};
-ghost use Rattle.parting.specs.Parting.{Orderly, LeftGathered, lowestTwo};
+ghost use Rattle.parting.specs.Parting.{Orderly, LeftGathered, pairOf};
 
 // Row o of reach is joined into row 1 of left.
 fn hide(reach: &[u64; 256], o: usize, left: &mut [u64; 256])
@@ -70,7 +70,7 @@ pub fn left_pair(
     j: Mark,
 ) -> Pair
     requires { ⌜ (n ≤ 128) × (c .0 < n) × (j .0 < 64) × (Orderly n (now order)) ⌝ }
-    ensures { λ r. ⌜ ((m : ℕ) (rows rules : List ℕ) → Prepared n m rows rules (now (order .entry)) (now (reach .entry)) (now (ruled .entry)) → j .0 < m → r ≡ lowestTwo (passing (left n (bit rows) (ownOf m rules (j .0)) (c .0)) n)) ⌝ }
+    ensures { λ r. ⌜ ((m : ℕ) (rows rules : List ℕ) → Prepared n m rows rules (now (order .entry)) (now (reach .entry)) (now (ruled .entry)) → j .0 < m → r ≡ pairOf (passing (left n (bit rows) (ownOf m rules (j .0)) (c .0)) n)) ⌝ }
 {
     let mut left = [0u64; 256];
     gather_left(

@@ -17,7 +17,7 @@ use Rattle.tables.specs.Reply.{Reply, refused, given, Finding}
 use Rattle.tables.specs.Tables.{shaped, sound}
 use Rattle.tables.specs.Calls as calls
 use Rattle.tables.specs.Calls.{Outcome, leaves, check, zeros}
-use Rattle.tables.specs.Books.{Edit, Request, Call, Answer, Result, opening, editing, finding, pairing, inspecting, RefusedBy, answerTo, outcome, Carried}
+use Rattle.tables.specs.Books.{Edit, Request, Call, Answer, Result, opening, editing, finding, pairing, inspecting, RefusedBy, answerTo, outcome}
 use Rattle.tables.proofs.BookLaws.{Consistent, consistent-sound, opened-consistent, call-consistent}
 use Rattle.tables.proofs.CallLaws.{given-not-refused, check-cases, entry-found}
 use Rattle.tables.proofs.CallerLaws.{caller-known}
@@ -98,33 +98,23 @@ module _ (b : Book) (right : Right b) where
   sound-or-none fits = ⊎-elim (λ none. absurd (omega (arith, sized-facts 1 1 (b .n) (b .m) _ _ _ _ _ fits .kinds .0))) (λ s. consistent-sound s) right
 
   -- a call of any form but open
-  module _ (request : Request) (alone : (k j : ℕ) → request ≢ Request.parties k j) where
+  module _ (request : Request) where
     abbrev call : Call
     call = asks (b .n) (b .m) request
 
     abbrev result : Result
-    result = outcome (refused 0) call (b .tables)
+    result = outcome call (b .tables)
 
     call-right : Right (record { n = b .n; m = b .m; tables = result .tables })
     call-right = ⊎-elim inl (λ s. inr (call-consistent (b .n) (b .m) call (b .tables) s)) right
 
-    carried : Carried call (b .tables) (result .answer) (result .tables)
-    carried = record { pair = refused 0; may = λ k j e. absurd (alone k j e); carried = refl }
-
     call-apart : ¬ RefusedBy 13 (result .answer) → Apart (printedAnswer (b .n) (b .m) (result .answer))
     call-apart thirteen =
-        answer-apart (b .n) (b .m) (result .answer) (tables.never-5 call (b .tables) sound-or-none carried) (tables.never-10 call (b .tables) sound-or-none carried)
-        thirteen
+        answer-apart (b .n) (b .m) (result .answer) (tables.never-5 call (b .tables) sound-or-none) (tables.never-10 call (b .tables) sound-or-none) thirteen
 
-  edit-alone : (by : ℕ) (e : Edit) (k j : ℕ) → Request.edit by e ≢ Request.parties k j
-  edit-alone by e k j is = let never : _≡_ {A = ℕ} 0 1 = cc in omega arith
-
-  find-alone : (c i k j : ℕ) → Request.find c i ≢ Request.parties k j
-  find-alone c i k j is = let never : _≡_ {A = ℕ} 0 1 = cc in omega arith
-
-  edit-apart : (e : Edit) → Apart (printedAnswer (b .n) (b .m) (result (Request.edit program e) (edit-alone program e) .answer))
+  edit-apart : (e : Edit) → Apart (printedAnswer (b .n) (b .m) (result (Request.edit program e) .answer))
   unfolding answerTo
-  edit-apart e = call-apart (Request.edit program e) (edit-alone program e) (caller-known (b .n) (b .m) (b .tables) program e (omega arith))
+  edit-apart e = call-apart (Request.edit program e) (caller-known (b .n) (b .m) (b .tables) program e (omega arith))
 
   find-not-13 : (k j : ℕ) → calls.find (b .n) (b .m) (b .tables) k j .reply ≢ refused 13
   unfolding calls.find
@@ -135,9 +125,9 @@ module _ (b : Book) (right : Right b) where
       check-cases 3 (b .tables) _ P _ (λ e. let never : _≡_ {A = ℕ} 3 13 = cc in omega arith) λ hj e.
       given-not-refused _ 13 (sym (entry-found (b .n) (b .m) (b .tables) k j fits (ltb-true k (b .n) hk) (ltb-true j (b .m) hj) (sound-or-none fits)) ∙ e)
 
-  find-apart : (k j : ℕ) → Apart (printedAnswer (b .n) (b .m) (result (Request.find k j) (find-alone k j) .answer))
+  find-apart : (k j : ℕ) → Apart (printedAnswer (b .n) (b .m) (result (Request.find k j) .answer))
   unfolding answerTo
-  find-apart k j = call-apart (Request.find k j) (find-alone k j) (find-not-13 k j)
+  find-apart k j = call-apart (Request.find k j) (find-not-13 k j)
 
   open-right : (n m : ℕ) (reply : Reply (Unit {0})) → calls.openBook n m (zeros n m) .reply ≡ reply
       → Right (openedBook b n m reply (calls.openBook n m (zeros n m) .tables))
@@ -155,11 +145,11 @@ module _ (b : Book) (right : Right b) where
   form-right : (form : Form) → Right (turnOf b form .book)
   unfolding turnOf carries
   form-right (openBook n m) = open-right n m _ refl
-  form-right (addRule k j h) = call-right _ (edit-alone _ _)
-  form-right (takeRule k j) = call-right _ (edit-alone _ _)
-  form-right (addLink c p) = call-right _ (edit-alone _ _)
-  form-right (takeLink c p) = call-right _ (edit-alone _ _)
-  form-right (find k j) = call-right _ (find-alone _ _)
+  form-right (addRule k j h) = call-right _
+  form-right (takeRule k j) = call-right _
+  form-right (addLink c p) = call-right _
+  form-right (takeLink c p) = call-right _
+  form-right (find k j) = call-right _
   form-right bad = right
 
   form-apart : (form : Form) → Apart (turnOf b form .printed)

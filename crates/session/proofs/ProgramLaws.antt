@@ -29,7 +29,7 @@ module _ (c : ℕ) (other : c ≢ program) where
     open-idle n m (given _) = check-holds 1 (zeros n m) _ (λ t. getD (t .tally) c 0 ≡ 0) _ (zeros-at callers c) λ _. zeros-at callers c
     open-idle n m (refused x) = idle
 
-    edit-idle : (e : Edit) → getD (answerTo (refused 0) (b .n) (b .m) (b .tables) (Request.edit program e) .tables .tally) c 0 ≡ 0
+    edit-idle : (e : Edit) → getD (answerTo (b .n) (b .m) (b .tables) (Request.edit program e) .tables .tally) c 0 ≡ 0
     unfolding answerTo
     edit-idle e = others-kept (b .n) (b .m) (b .tables) program c other e ∙ idle
 

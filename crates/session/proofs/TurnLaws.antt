@@ -14,11 +14,11 @@ use lib.ListN.{length, drop}
 use lib.Seq.{length-take-le}
 use Rattle.inheritance.proofs.Bools.{same-bool}
 use Rattle.patterns.specs.Pattern.{Printed}
-use Rattle.tables.specs.Reply.{Reply, refused, given, TwoKinds}
+use Rattle.tables.specs.Reply.{Reply, refused, given}
 use Rattle.tables.specs.Tables.{Tables, lent, shaped, LengthsOf}
 use Rattle.tables.specs.Calls as calls
 use Rattle.tables.specs.Calls.{check, zeros}
-use Rattle.tables.specs.Books.{Request, Call, Answer, opening, Result, gives, told, answerTo, outcome, Carried}
+use Rattle.tables.specs.Books.{Request, Call, Answer, opening, Result, gives, told, answerTo, outcome}
 use Rattle.tables.proofs.ShapeLaws.{sized-facts, facts-sized, zeros-lengths}
 use Rattle.answers.specs.Answers.{printedRefused, printedAnswer}
 use Rattle.forms.specs.Forms.{formOf}
@@ -64,27 +64,25 @@ opening-parts n m t room = go (shaped n m (parts n m t)) refl
     go true is = inl (rw (is, check) refl, rw (sym (same-shape n m t room) ∙ is, check) refl)
     go false is = inr (rw (is, check) refl, rw (sym (same-shape n m t room) ∙ is, check) refl)
 
--- ---- Any other call: its answer is no open's, and what parties gives plays no part
+-- ---- Any other call: its answer is no open's
 
-record Other (pair : Reply TwoKinds) (n m : ℕ) (t : Tables) (r : Request) : Type 0 where
+record Other (n m : ℕ) (t : Tables) (r : Request) : Type 0 where
   not-fresh : fresh r ≡ false
-  size : (call : Call) (k : ℕ) → sizeAfter n m call (answerTo pair n m t r .answer) k ≡ ofSize n m k
-  tables : answerTo pair n m t r .tables ≡ answerTo (refused 0) n m t r .tables
-  said : printedAnswer n m (answerTo pair n m t r .answer) ≡ printedAnswer n m (answerTo (refused 0) n m t r .answer)
+  size : (call : Call) (k : ℕ) → sizeAfter n m call (answerTo n m t r .answer) k ≡ ofSize n m k
 
-open-or-other : (pair : Reply TwoKinds) (n m : ℕ) (t : Tables) (r : Request) → (r ≡ Request.openBook) ⊎ Other pair n m t r
+open-or-other : (n m : ℕ) (t : Tables) (r : Request) → (r ≡ Request.openBook) ⊎ Other n m t r
 unfolding answerTo
-open-or-other pair n m t Request.openBook = inl refl
-open-or-other pair n m t (Request.edit caller e) = inr (record { not-fresh = refl; size = λ call k. refl; tables = refl; said = refl })
-open-or-other pair n m t (Request.find kind mark) = inr (record { not-fresh = refl; size = λ call k. refl; tables = refl; said = refl })
-open-or-other pair n m t (Request.parties kind mark) = inr (record { not-fresh = refl; size = λ call k. refl; tables = refl; said = refl })
-open-or-other pair n m t Request.inspect = inr (record { not-fresh = refl; size = λ call k. refl; tables = refl; said = refl })
-open-or-other pair n m t Request.refresh = inr (record { not-fresh = refl; size = λ call k. refl; tables = refl; said = refl })
+open-or-other n m t Request.openBook = inl refl
+open-or-other n m t (Request.edit caller e) = inr (record { not-fresh = refl; size = λ call k. refl })
+open-or-other n m t (Request.find kind mark) = inr (record { not-fresh = refl; size = λ call k. refl })
+open-or-other n m t (Request.parties kind mark) = inr (record { not-fresh = refl; size = λ call k. refl })
+open-or-other n m t Request.inspect = inr (record { not-fresh = refl; size = λ call k. refl })
+open-or-other n m t Request.refresh = inr (record { not-fresh = refl; size = λ call k. refl })
 
 -- ---- A call
 
-module _ {call : Call} {a b d : ℕ} {t : Tables} (l : Lending (call .n) (call .m) t a b d) {answer : Answer} {links rules entries tally disputes : List ℕ}
-    (done : Carried call (taken l) answer (lent links rules entries tally disputes)) (kept : Kept l (lent links rules entries tally disputes))
+module _ (call : Call) {a b d : ℕ} {t : Tables} (l : Lending (call .n) (call .m) t a b d) {answer : Answer} {links rules entries tally disputes : List ℕ}
+    (done : gives answer (lent links rules entries tally disputes) ≡ outcome call (taken l)) (kept : Kept l (lent links rules entries tally disputes))
     {out out-after : List ℕ} {k : ℕ} (printed : Printed (printedAnswer (call .n) (call .m) answer) out k out-after) where
   abbrev part : Tables
   part = lent links rules entries tally disputes
@@ -95,8 +93,8 @@ module _ {call : Call} {a b d : ℕ} {t : Tables} (l : Lending (call .n) (call .
   abbrev lentParts : Tables
   lentParts = parts (call .n) (call .m) t
 
-  is : gives answer part ≡ outcome (done .pair) call lentParts
-  is = done .carried ∙ ap (outcome (done .pair) call) (parts-lent l)
+  is : gives answer part ≡ outcome call lentParts
+  is = done ∙ ap (outcome call) (parts-lent l)
 
   came : {x : Tables} → part ≡ x → after ≡ putIn x t
   came e = all-back l part kept ∙ ap (λ (y : Tables). putIn y t) e
@@ -110,11 +108,11 @@ module _ {call : Call} {a b d : ℕ} {t : Tables} (l : Lending (call .n) (call .
   abbrev Done : Bool → (n m : ℕ) → Type 0
   Done new n m = Answered (λ b. carriesBy new b call) n m t after out (sizeAfter n m call answer k) out-after
 
-  other-done : Other (done .pair) (call .n) (call .m) lentParts (call .request) → Done false (call .n) (call .m)
+  other-done : Other (call .n) (call .m) lentParts (call .request) → Done false (call .n) (call .m)
   other-done o =
-      let answer-is : answer ≡ outcome (done .pair) call lentParts .answer = ap (λ (r : Result). r .answer) is in
-      let tables-is = ap (λ (r : Result). r .tables) is ∙ o .tables in
-      let said = ap (printedAnswer (call .n) (call .m)) answer-is ∙ o .said in
+      let answer-is : answer ≡ outcome call lentParts .answer = ap (λ (r : Result). r .answer) is in
+      let tables-is = ap (λ (r : Result). r .tables) is in
+      let said = ap (printedAnswer (call .n) (call .m)) answer-is in
       rw (answer-is, o .size call k)
       (record { book = new-book tables-is; tables = came tables-is; printed = subst (λ (x : List ℕ). Printed x out k out-after) said printed })
 
@@ -138,12 +136,12 @@ module _ {call : Call} {a b d : ℕ} {t : Tables} (l : Lending (call .n) (call .
   turn-done n m size =
       ⊎-elim
       (λ (e : call .request ≡ Request.openBook).
-      subst (λ (new : Bool). Done new n m) (sym (ap fresh e)) (open-done n m (is ∙ ap (answerTo (done .pair) (call .n) (call .m) lentParts) e)))
-      (λ (o : Other (done .pair) (call .n) (call .m) lentParts (call .request)).
+      subst (λ (new : Bool). Done new n m) (sym (ap fresh e)) (open-done n m (is ∙ ap (answerTo (call .n) (call .m) lentParts) e)))
+      (λ (o : Other (call .n) (call .m) lentParts (call .request)).
       let same : OfBookBy false n m call = subst (λ (new : Bool). OfBookBy new n m call) (o .not-fresh) size in
       subst (λ (new : Bool). Done new n m) (sym (o .not-fresh))
       (subst (λ (y : ℕ). Done false n y) (same .1) (subst (λ (x : ℕ). Done false x (call .m)) (same .0) (other-done o))))
-      (open-or-other (done .pair) (call .n) (call .m) lentParts (call .request))
+      (open-or-other (call .n) (call .m) lentParts (call .request))
 
 -- ---- A line
 

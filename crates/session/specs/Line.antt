@@ -37,11 +37,10 @@ opens b n m o = record { book = openedBook b n m (o .reply) (o .tables); printed
 abbrev pub leavesIn : Book → Result → Turn
 leavesIn b r = record { book = record { n = b .n; m = b .m; tables = r .tables }; printed = printedAnswer (b .n) (b .m) (r .answer) }
 
--- open is lent tables of the size that it names, and what they hold plays no part; any other call is lent the book's. No form asks for parties, whose
--- answer is left open, and nothing is printed of it
+-- open is lent tables of the size that it names, and what they hold plays no part; any other call is lent the book's
 abbrev pub carriesBy : Bool → Book → Call → Turn
 carriesBy true b call = opens b (call .n) (call .m) (calls.openBook (call .n) (call .m) (zeros (call .n) (call .m)))
-carriesBy false b call = leavesIn b (outcome (refused 0) call (b .tables))
+carriesBy false b call = leavesIn b (outcome call (b .tables))
 
 unfoldable pub carries : Book → Call → Turn
 carries b call = carriesBy (fresh (call .request)) b call

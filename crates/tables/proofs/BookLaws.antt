@@ -23,7 +23,7 @@ use Rattle.inheritance.specs.Above.{Chain, link, step, Acyclic, count}
 use Rattle.inheritance.proofs.AboveLaws.{chainless-acyclic, count-none}
 use Rattle.inheritance.proofs.LookupLaws.{lookup-bare}
 use Rattle.tables.specs.Entry.{entryOf}
-use Rattle.tables.specs.Reply.{refused, given}
+use Rattle.tables.specs.Reply.{given}
 use Rattle.tables.specs.Tables.{Tables, lent, shaped, LengthsOf, upOf, ownOf, entryAt, listed, grid, entriesOf, bytes-right, sound}
 use Rattle.tables.specs.Tables.{is-dispute, disputesAt, disputesOf}
 use Rattle.tables.specs.Calls as calls
@@ -31,7 +31,7 @@ use Rattle.tables.specs.Calls.{zeros}
 use Rattle.tables.specs.Books.{Edit, Request, Call, editOutcome, answerTo, after, run, Agree}
 use Rattle.tables.specs.Books.Edit.{addRule, takeRule, addLink, takeLink}
 use Rattle.tables.specs.Books.Request.{openBook, edit, find, parties, inspect, refresh}
-use Rattle.tables.proofs.CallLaws.{check-given, check-holds, find-keeps, inspect-keeps}
+use Rattle.tables.proofs.CallLaws.{check-given, check-holds, find-keeps, parties-keeps, inspect-keeps}
 use Rattle.tables.proofs.DisputeLaws.{length-disputes, disputes-at}
 use Rattle.tables.proofs.EditLaws.{passed, changed-bytes, added-acyclic, taken-acyclic}
 use Rattle.tables.proofs.ShapeLaws.{sized-facts, facts-sized, shape-sized, zeros-lengths}
@@ -185,14 +185,14 @@ module _ (n m : ℕ) (t : Tables) (s : Consistent n m t) where
       let (hc, hp) = both-below within in
       link-consistent n′ m′ by c p 0 (omega arith) hc hp fits is-sound (taken-acyclic n′ m′ t (passed n′ m′ t fits is-sound) c p hc hp)
 
-  request-consistent : (n′ m′ : ℕ) (r : Request) → Stays (answerTo (refused 0) n′ m′ t r .tables)
+  request-consistent : (n′ m′ : ℕ) (r : Request) → Stays (answerTo n′ m′ t r .tables)
   unfolding answerTo calls.openBook calls.refresh
   request-consistent n′ m′ openBook = check-holds 1 t _ Stays _ s λ fits.
       let (n-same, m-same) = same-size n′ m′ fits in
       rw (n-same, m-same) (zeros-consistent n m t (s .lengths))
   request-consistent n′ m′ (edit by e) = edit-consistent n′ m′ by e
   request-consistent n′ m′ (find k j) = rw (find-keeps n′ m′ t k j) s
-  request-consistent n′ m′ (parties k j) = s
+  request-consistent n′ m′ (parties k j) = rw (parties-keeps n′ m′ t k j) s
   request-consistent n′ m′ inspect = rw (inspect-keeps n′ m′ t) s
   request-consistent n′ m′ refresh = check-holds 1 t _ Stays _ s λ fits. check-holds 5 t _ Stays _ s λ right.
       let (bytes, free) = and-eq-true-iff (bytes-right n′ (t .links)) _ .0 right in

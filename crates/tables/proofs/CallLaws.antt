@@ -42,6 +42,11 @@ module _ {A : Type 0} (number : ℕ) (t : Tables) (next : Outcome A) where
   check-cases P true when-refused rest = rest refl
   check-cases P false when-refused rest = when-refused
 
+  -- the reply where the test fails
+  pub check-stops : (b : Bool) → b ≡ false → check number b t next .reply ≡ refused number
+  unfolding check
+  check-stops b fails = rw fails refl
+
   -- of the tables after a call that gives something
   pub check-given : (P : Tables → Type 0) (b : Bool) {a : A} → (b ≡ true → next .reply ≡ given a → P (next .tables))
       → check number b t next .reply ≡ given a → P (check number b t next .tables)
@@ -95,10 +100,16 @@ module _ (n m : ℕ) (t : Tables) where
   abbrev Kept : Tables → Type 0
   Kept t′ = t′ ≡ t
 
-  -- find and inspect write to no table, whatever they answer
+  -- find, parties and inspect write to no table, whatever they answer
   pub find-keeps : (k j : ℕ) → calls.find n m t k j .tables ≡ t
   unfolding calls.find
   find-keeps k j = check-holds 1 t _ Kept _ refl λ _. check-holds 2 t _ Kept _ refl λ _. check-holds 3 t _ Kept _ refl λ _. refl
+
+  pub parties-keeps : (k j : ℕ) → calls.parties n m t k j .tables ≡ t
+  unfolding calls.parties
+  parties-keeps k j =
+      check-holds 1 t _ Kept _ refl λ _. check-holds 2 t _ Kept _ refl λ _. check-holds 3 t _ Kept _ refl λ _. check-holds 5 t _ Kept _ refl λ _.
+      check-holds _ t _ Kept _ refl λ _. refl
 
   pub inspect-keeps : calls.inspect n m t .tables ≡ t
   unfolding calls.inspect

@@ -14,14 +14,14 @@ use lib.Dec.{eqb, ltb}
 use lib.ListN.{getD}
 use lib.Seq.{getD-set-other}
 use Rattle.tables.specs.Caller.{callers}
-use Rattle.tables.specs.Reply.{Reply, refused, TwoKinds}
+use Rattle.tables.specs.Reply.{refused}
 use Rattle.tables.specs.Tables.{Tables, shaped, tallied}
 use Rattle.tables.specs.Calls as calls
 use Rattle.tables.specs.Calls.{Outcome, leaves, check, byCaller}
 use Rattle.tables.specs.Books.{Edit, Request, editOutcome, answerTo}
 use Rattle.tables.specs.Books.Edit.{addRule, takeRule, addLink, takeLink}
 use Rattle.tables.specs.Books.Request.{openBook, edit, find, parties, inspect, refresh}
-use Rattle.tables.proofs.CallLaws.{given-not-refused, check-cases, check-holds, find-keeps, inspect-keeps}
+use Rattle.tables.proofs.CallLaws.{given-not-refused, check-cases, check-holds, find-keeps, parties-keeps, inspect-keeps}
 
 module _ (n m : ℕ) (t : Tables) (caller : ℕ) where
   none-such : {A : Type 0} (next : Outcome A) → shaped n m t ≡ true → callers ≤ caller → byCaller n m t caller next ≡ leaves (refused 13) t
@@ -88,11 +88,11 @@ module _ (n m : ℕ) (t : Tables) where
   abbrev Kept : Tables → Type 0
   Kept t′ = t′ .tally ≡ t .tally
 
-  pub tally-kept : (pair : Reply TwoKinds) (r : Request) → r ≢ openBook → ((by : ℕ) (e : Edit) → r ≢ edit by e) → Kept (answerTo pair n m t r .tables)
+  pub tally-kept : (r : Request) → r ≢ openBook → ((by : ℕ) (e : Edit) → r ≢ edit by e) → Kept (answerTo n m t r .tables)
   unfolding answerTo calls.refresh
-  tally-kept pair openBook no-open no-edit = absurd (no-open refl)
-  tally-kept pair (edit by e) no-open no-edit = absurd (no-edit by e refl)
-  tally-kept pair (find k j) no-open no-edit = ap (λ (t′ : Tables). t′ .tally) (find-keeps n m t k j)
-  tally-kept pair (parties k j) no-open no-edit = refl
-  tally-kept pair inspect no-open no-edit = ap (λ (t′ : Tables). t′ .tally) (inspect-keeps n m t)
-  tally-kept pair refresh no-open no-edit = check-holds 1 t _ Kept _ refl λ _. check-holds 5 t _ Kept _ refl λ _. refl
+  tally-kept openBook no-open no-edit = absurd (no-open refl)
+  tally-kept (edit by e) no-open no-edit = absurd (no-edit by e refl)
+  tally-kept (find k j) no-open no-edit = ap (λ (t′ : Tables). t′ .tally) (find-keeps n m t k j)
+  tally-kept (parties k j) no-open no-edit = ap (λ (t′ : Tables). t′ .tally) (parties-keeps n m t k j)
+  tally-kept inspect no-open no-edit = ap (λ (t′ : Tables). t′ .tally) (inspect-keeps n m t)
+  tally-kept refresh no-open no-edit = check-holds 1 t _ Kept _ refl λ _. check-holds 5 t _ Kept _ refl λ _. refl

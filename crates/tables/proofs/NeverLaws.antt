@@ -3,26 +3,23 @@
 --     stays-never-5, stays-never-10     so it is for calls of any n and m on a book, after any list of calls since it was just opened
 --     sound-or-unfit                    .. on any book that has its lengths and is sound
 -- Assumes nothing.
-use mathlib.Core.Path.{_≡_, refl, sym, _∙_, ap, subst}
+use mathlib.Core.Path.{_≡_, refl, sym, _∙_}
 use mathlib.Core.Bool.{Bool, true, false, and-eq-true-iff}
-use mathlib.Core.Logic.{_≢_, ⊎-elim, by-cases}
+use mathlib.Core.Logic.{_≢_}
 use mathlib.Core.List.{List}
 use Prim.Native.Nat.{ℕ}
-use native.Mathlib.Decide.{decLt}
-use native.Mathlib.Omega.{arith}
 use borrow.Author.Tests.{eqb-false, ltb-true}
 use lib.Dec.{eqb}
-use Rattle.tables.specs.Reply.{Reply, refused, given, TwoKinds}
+use Rattle.tables.specs.Reply.{Reply, refused, given}
 use Rattle.tables.specs.Tables.{Tables, shaped, links-right, sound, upOf}
 use Rattle.tables.specs.Calls as calls
-use Rattle.tables.specs.Calls.{Outcome, check, PartiesGive}
-use Rattle.tables.specs.Books.{Edit, Request, Call, Answer, Result, RefusedBy, editOutcome, answerTo, after, Carried, run}
+use Rattle.tables.specs.Calls.{Outcome, check}
+use Rattle.tables.specs.Books.{Edit, Request, Call, Answer, RefusedBy, editOutcome, answerTo, outcome, after, run}
 use Rattle.tables.specs.Books.Edit.{addRule, takeRule, addLink, takeLink}
 use Rattle.tables.specs.Books.Request.{openBook, edit, find, parties, inspect, refresh}
 use Rattle.tables.proofs.BookLaws.{Consistent, consistent-sound, same-size, stays}
 use Rattle.tables.proofs.CallLaws.{check-cases, given-not-refused, entry-found}
 use Rattle.tables.proofs.EditLaws.{passed}
-use Rattle.tables.proofs.PartiesLaws.{parties-shape, parties-kind, parties-mark, parties-either}
 use Rattle.tables.proofs.SoundLaws.{mean-bytes, means-free}
 
 -- ---- replies
@@ -74,45 +71,27 @@ module _ (n m : ℕ) (t : Tables) (right : shaped n m t ≡ true → sound n m t
       let before = passed n m t fits (right fits) .before in
       and-eq-true-iff _ _ .1 (mean-bytes n (t .links) (before .bytes), means-free n (upOf n (t .links)) (before .acyclic))
 
-  parties-never : (k j : ℕ) (pair : Reply TwoKinds) → PartiesGive n m t k j pair → Never pair
-  parties-never k j pair gives = by-shape (shaped n m t) refl
-    where
-      refusal : (number : ℕ) → pair ≡ refused number → eqb number 5 ≡ false → eqb number 10 ≡ false → Never pair
-      refusal number is five ten = rw is (refused-never number five ten)
-
-      by-shape : (b : Bool) → shaped n m t ≡ b → Never pair
-      by-shape false unfit = refusal 1 (parties-shape n m t k j pair gives unfit) refl refl
-      by-shape true fits = by-cases (decLt k n)
-          (λ hk. by-cases (decLt j m)
-          (λ hj. ⊎-elim (λ two. gives-never (two .gives)) (λ is. refusal 11 is refl refl) (parties-either n m t k j pair gives fits hk hj (right fits)))
-          (λ past. refusal 3 (parties-mark n m t k j pair gives fits hk (omega arith)) refl refl))
-          (λ past. refusal 2 (parties-kind n m t k j pair gives fits (omega arith)) refl refl)
-
-  answer-never : (pair : Reply TwoKinds) (r : Request) → ((k j : ℕ) → r ≡ parties k j → PartiesGive n m t k j pair) → NeverIn (answerTo pair n m t r .answer)
-  unfolding answerTo calls.openBook calls.find calls.inspect calls.refresh
-  answer-never pair openBook may = past 1 t _ _ refl refl λ _. gives-never refl
-  answer-never pair (edit by e) may = edit-never by e
-  answer-never pair (find k j) may =
+  answer-never : (r : Request) → NeverIn (answerTo n m t r .answer)
+  unfolding answerTo calls.openBook calls.find calls.parties calls.inspect calls.refresh
+  answer-never openBook = past 1 t _ _ refl refl λ _. gives-never refl
+  answer-never (edit by e) = edit-never by e
+  answer-never (find k j) =
       past 1 t _ _ refl refl λ fits. past 2 t _ _ refl refl λ hk. past 3 t _ _ refl refl λ hj.
       gives-never (entry-found n m t k j fits (ltb-true _ _ hk) (ltb-true _ _ hj) (right fits))
-  answer-never pair (parties k j) may = parties-never k j pair (may k j refl)
-  answer-never pair inspect may = past 1 t _ _ refl refl λ _. gives-never refl
-  answer-never pair refresh may = past 1 t _ _ refl refl λ fits. through 5 t _ _ (links-sound fits) (gives-never refl)
+  answer-never (parties k j) =
+      past 1 t _ _ refl refl λ fits. past 2 t _ _ refl refl λ _. past 3 t _ _ refl refl λ _. through 5 t _ _ (right fits)
+      (past 11 t _ _ refl refl λ _. gives-never refl)
+  answer-never inspect = past 1 t _ _ refl refl λ _. gives-never refl
+  answer-never refresh = past 1 t _ _ refl refl λ fits. through 5 t _ _ (links-sound fits) (gives-never refl)
 
 -- ---- the laws
 
-module _ (call : Call) (t : Tables) (right : shaped (call .n) (call .m) t ≡ true → sound (call .n) (call .m) t ≡ true) {answer : Answer} {left : Tables}
-    (c : Carried call t answer left) where
-  never : NeverIn answer
-  never =
-      subst NeverIn (sym (ap (λ (r : Result). r .answer) (c .carried)))
-      (answer-never (call .n) (call .m) t right (c .pair) (call .request) (c .may))
+module _ (call : Call) (t : Tables) (right : shaped (call .n) (call .m) t ≡ true → sound (call .n) (call .m) t ≡ true) where
+  pub never-5 : ¬ RefusedBy 5 (outcome call t .answer)
+  never-5 = answer-never (call .n) (call .m) t right (call .request) .0
 
-  pub never-5 : ¬ RefusedBy 5 answer
-  never-5 = never .0
-
-  pub never-10 : ¬ RefusedBy 10 answer
-  never-10 = never .1
+  pub never-10 : ¬ RefusedBy 10 (outcome call t .answer)
+  never-10 = answer-never (call .n) (call .m) t right (call .request) .1
 
 -- such tables, for a call of any n and m, are those of a book that has its lengths and is sound
 pub sound-or-unfit : (n m : ℕ) (t : Tables) → Consistent n m t → (n′ m′ : ℕ) → shaped n′ m′ t ≡ true → sound n′ m′ t ≡ true
@@ -120,10 +99,12 @@ sound-or-unfit n m t s n′ m′ fits =
     let (n-same, m-same) = same-size n m t s n′ m′ fits in
     rw (n-same, m-same) (consistent-sound s)
 
-module _ (n m : ℕ) (t : Tables) (opened : calls.openBook n m t .reply ≡ given tt) (cs : List Call) (call : Call) {answer : Answer} {left : Tables}
-    (c : Carried call (run after cs (calls.openBook n m t .tables)) answer left) where
-  pub stays-never-5 : ¬ RefusedBy 5 answer
-  stays-never-5 = never-5 call _ (sound-or-unfit n m _ (stays n m t opened cs) (call .n) (call .m)) c
+module _ (n m : ℕ) (t : Tables) (opened : calls.openBook n m t .reply ≡ given tt) (cs : List Call) (call : Call) where
+  abbrev left : Tables
+  left = run after cs (calls.openBook n m t .tables)
 
-  pub stays-never-10 : ¬ RefusedBy 10 answer
-  stays-never-10 = never-10 call _ (sound-or-unfit n m _ (stays n m t opened cs) (call .n) (call .m)) c
+  pub stays-never-5 : ¬ RefusedBy 5 (outcome call (run after cs (calls.openBook n m t .tables)) .answer)
+  stays-never-5 = never-5 call left (sound-or-unfit n m left (stays n m t opened cs) (call .n) (call .m))
+
+  pub stays-never-10 : ¬ RefusedBy 10 (outcome call (run after cs (calls.openBook n m t .tables)) .answer)
+  stays-never-10 = never-10 call left (sound-or-unfit n m left (stays n m t opened cs) (call .n) (call .m))

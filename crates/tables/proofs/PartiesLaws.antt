@@ -1,45 +1,94 @@
--- What parties may give, case by case: `PartiesGive` fixes its refusals and when it gives a pair.
+-- What parties answers, case by case.
 --     parties-shape, parties-kind, parties-mark, parties-unsound     refusals 1, 2, 3 and 5, each where the ones before it do not hold
---     parties-dispute                                                on sound tables: two parties where the lookup is a dispute
---     parties-no-dispute                                             .. and refusal 11 where it is not
---     parties-either, parties-pair                                   so there it is one of the two, and a pair is given of a dispute alone
+--     parties-dispute        on sound tables it gives the two lowest kinds left where the lookup is a dispute: the two are there, are left, the first
+--                            has the lower number, and no other kind left has a number below the second (`LowestTwo`)
+--     parties-no-dispute     .. and refusal 11 where it is not
 -- Assumes nothing.
-use mathlib.Core.Path.{_≡_, refl, sym, _∙_, subst}
+use mathlib.Core.Path.{_≡_, refl, sym, _∙_, ap}
 use mathlib.Core.Bool.{Bool, true, false}
-use mathlib.Core.Logic.{_≢_, _⊎_, inl, inr, ⊎-elim}
+use mathlib.Core.Logic.{_≢_}
 use Prim.Native.Nat.{ℕ, _+_, _*_, _<_, _≤_}
 use native.Mathlib.Omega.{arith}
 use borrow.Author.Tests.{lt-ltb, le-ltb, le-leb, lt-leb}
-use lib.Dec.{leb}
+use lib.Dec.{ltb}
 use lib.ListN.{getD}
 use Rattle.inheritance.specs.declared.Kind.{Kind}
 use Rattle.inheritance.specs.declared.Lookup.{Lookup}
 use Rattle.inheritance.specs.declared.Lookup.the-variants.{None, Rule, Dispute}
-use Rattle.inheritance.specs.Lookup.{lookup}
-use Rattle.inheritance.proofs.LookupLaws.{InRange, lookup-range}
+use Rattle.inheritance.specs.Lookup.{lookup, left, Left, Two}
+use Rattle.inheritance.proofs.DecideLaws.{passing-cases}
+use Rattle.inheritance.proofs.LeftLaws.{seen-rule, left-test}
+use Rattle.inheritance.proofs.LookupLaws.{InRange, lookup-range, lookup-dispute-iff}
 use Rattle.tables.specs.Entry.{entryOf}
-use Rattle.tables.specs.Reply.{Reply, refused, given, TwoKinds}
-use Rattle.tables.specs.Tables.{Tables, shaped, upOf, ownOf, entryAt, sound}
-use Rattle.tables.specs.Calls.{Check, TwoParties, PartiesGive}
-use Rattle.tables.proofs.CallLaws.{given-not-refused}
+use Rattle.tables.specs.Reply.{refused, given, TwoKinds}
+use Rattle.tables.specs.Tables.{Tables, shaped, upOf, ownOf, entryAt, is-dispute, sound}
+use Rattle.tables.specs.Calls.{check, leaves, kindsLeft, lowestTwo, parties}
+use Rattle.tables.proofs.CallLaws.{check-stops}
 use Rattle.tables.proofs.EditLaws.{passed}
 use Rattle.tables.proofs.SoundLaws.{entries-looked}
 
-module _ (n m : ℕ) (t : Tables) (k j : ℕ) (reply : Reply TwoKinds) (gives : PartiesGive n m t k j reply) where
-  pub parties-shape : shaped n m t ≡ false → reply ≡ refused 1
-  parties-shape unfit = rw unfit at gives
+-- the lowest number that holds P, then the second lowest
+pub record LowestTwo (P : ℕ → Type 0) (pair : TwoKinds) : Type 0 where
+  pub one-holds : P (pair .one)
+  pub other-holds : P (pair .other)
+  pub in-order : pair .one < pair .other
+  pub no-other : (o : ℕ) → P o → o < pair .other → o ≡ pair .one
+
+module _ (n m : ℕ) (t : Tables) (k j : ℕ) where
+  abbrev IsLeft : ℕ → Type 0
+  IsLeft = Left n (upOf n (t .links)) (ownOf m (t .rules) j) k
+
+  -- where two kinds are left, the list of these begins with the two lowest
+  two-lowest : k < n → Two (Left n (upOf n (t .links)) (ownOf m (t .rules) j) k)
+      → LowestTwo (Left n (upOf n (t .links)) (ownOf m (t .rules) j) k) (lowestTwo (kindsLeft n m t k j))
+  two-lowest hk (o₁, o₂, h₁, h₂, apart) =
+      passing-cases (λ os. LowestTwo IsLeft (lowestTwo os)) test n
+      (λ none. absurd (none o₁ (below h₁) (is h₁)))
+      (λ o l e only. absurd (apart (only o₁ (below h₁) (is h₁) ∙ sym (only o₂ (below h₂) (is h₂)))))
+      (λ o o′ os l l′ e e′ less first. record {
+        one-holds = left-test n up own k o hk l .0 e;
+        other-holds = left-test n up own k o′ hk l′ .0 e′;
+        in-order = less;
+        no-other = λ i h before. first i before (is h);
+      })
+    where
+      up : ℕ → ℕ → Bool
+      up = upOf n (t .links)
+
+      own : ℕ → Bool
+      own = ownOf m (t .rules) j
+
+      test : ℕ → Bool
+      test = left n up own k
+
+      below : {o : ℕ} → IsLeft o → o < n
+      below h = seen-rule n up own hk (h .is-seen) .0
+
+      is : {o : ℕ} → IsLeft o → test o ≡ true
+      is {o} h = left-test n up own k o hk (below h) .1 h
+
+  -- ---- the refusals
+
+  pub parties-shape : shaped n m t ≡ false → parties n m t k j .reply ≡ refused 1
+  unfolding parties
+  parties-shape unfit = check-stops 1 t _ (shaped n m t) unfit
 
   module _ (fits : shaped n m t ≡ true) where
-    pub parties-kind : n ≤ k → reply ≡ refused 2
-    parties-kind past = rw (fits, le-ltb k n past) at gives
+    pub parties-kind : n ≤ k → parties n m t k j .reply ≡ refused 2
+    unfolding parties check
+    parties-kind past = rw fits (check-stops 2 t _ (ltb k n) (le-ltb k n past))
 
     module _ (kind-in : k < n) where
-      pub parties-mark : m ≤ j → reply ≡ refused 3
-      parties-mark past = rw (fits, lt-ltb k n kind-in, le-ltb j m past) at gives
+      pub parties-mark : m ≤ j → parties n m t k j .reply ≡ refused 3
+      unfolding parties check
+      parties-mark past = rw (fits, lt-ltb k n kind-in) (check-stops 3 t _ (ltb j m) (le-ltb j m past))
 
       module _ (mark-in : j < m) where
-        pub parties-unsound : sound n m t ≡ false → reply ≡ refused 5
-        parties-unsound unsound = rw (fits, lt-ltb k n kind-in, lt-ltb j m mark-in, unsound) at gives
+        pub parties-unsound : sound n m t ≡ false → parties n m t k j .reply ≡ refused 5
+        unfolding parties check
+        parties-unsound unsound = rw (fits, lt-ltb k n kind-in, lt-ltb j m mark-in) (check-stops 5 t _ (sound n m t) unsound)
+
+        -- ---- on sound tables
 
         module _ (is-sound : sound n m t ≡ true) where
           abbrev looked : Lookup
@@ -49,37 +98,29 @@ module _ (n m : ℕ) (t : Tables) (k j : ℕ) (reply : Reply TwoKinds) (gives : 
           unfolding entryAt
           entry = entries-looked n m (upOf n (t .links)) (t .rules) (t .entries) (passed n m t fits is-sound .before .entries) k j kind-in mark-in
 
-          abbrev From257 : Bool → Type 0
-          From257 b = Check 11 b reply (TwoParties n m t k j reply)
-
-          from-entry : From257 (leb 257 (entryOf looked))
-          from-entry = subst (λ (e : ℕ). From257 (leb 257 e)) entry (rw (fits, lt-ltb k n kind-in, lt-ltb j m mark-in, is-sound) at gives)
+          by-entry : (b : Bool) → is-dispute (entryOf looked) ≡ b
+              → parties n m t k j .reply ≡ check 11 b t (leaves (given (lowestTwo (kindsLeft n m t k j))) t) .reply
+          unfolding parties check
+          by-entry b is =
+              rw (fits, lt-ltb k n kind-in, lt-ltb j m mark-in, is-sound)
+              (ap (λ (test : Bool). check 11 test t (leaves (given (lowestTwo (kindsLeft n m t k j))) t) .reply) (ap is-dispute entry ∙ is))
 
           below-257 : (v : Lookup) → InRange n (ownOf m (t .rules) j) v → ((x : Kind) → v ≢ Dispute x) → entryOf v < 257
           below-257 None r not-one = omega arith
           below-257 (Rule o) r not-one = let few = passed n m t fits is-sound .sizes .kinds in omega (arith, r .0)
           below-257 (Dispute x) r not-one = absurd (not-one x refl)
 
-          pub parties-dispute : (x : Kind) → looked ≡ Dispute x → TwoParties n m t k j reply
-          parties-dispute x is =
-              subst From257 (le-leb 257 (257 + x .0) (omega arith)) (subst (λ (v : Lookup). From257 (leb 257 (entryOf v))) is from-entry)
+          pub parties-dispute : (x : Kind) → looked ≡ Dispute x
+              → (pair : TwoKinds) × (parties n m t k j .reply ≡ given pair) × LowestTwo (Left n (upOf n (t .links)) (ownOf m (t .rules) j) k) pair
+          unfolding check
+          parties-dispute x is = (
+            lowestTwo (kindsLeft n m t k j),
+            by-entry true (ap (λ (v : Lookup). is-dispute (entryOf v)) is ∙ le-leb 257 (257 + x .0) (omega arith)),
+            two-lowest kind-in (lookup-dispute-iff n (upOf n (t .links)) (ownOf m (t .rules) j) k kind-in .0 (x .0, is)),
+          )
 
-          pub parties-no-dispute : ((x : Kind) → looked ≢ Dispute x) → reply ≡ refused 11
+          pub parties-no-dispute : ((x : Kind) → looked ≢ Dispute x) → parties n m t k j .reply ≡ refused 11
+          unfolding check
           parties-no-dispute not-one =
               let range = lookup-range n (upOf n (t .links)) (ownOf m (t .rules) j) k kind-in in
-              subst From257 (lt-leb 257 (entryOf looked) (below-257 looked range not-one)) from-entry
-
-          disputed-or-not : ((x : Kind) × (looked ≡ Dispute x)) ⊎ ((x : Kind) → looked ≢ Dispute x)
-          disputed-or-not = go looked
-            where
-              go : (v : Lookup) → ((x : Kind) × (v ≡ Dispute x)) ⊎ ((x : Kind) → v ≢ Dispute x)
-              go None = inr (λ x d. let never : _≡_ {A = ℕ} 0 1 = cc in omega arith)
-              go (Rule o) = inr (λ x d. let never : _≡_ {A = ℕ} 0 1 = cc in omega arith)
-              go (Dispute x) = inl (x, refl)
-
-          pub parties-either : TwoParties n m t k j reply ⊎ (reply ≡ refused 11)
-          parties-either = ⊎-elim (λ (x, is). inl (parties-dispute x is)) (λ not-one. inr (parties-no-dispute not-one)) disputed-or-not
-
-          pub parties-pair : (pair : TwoKinds) → reply ≡ given pair → (x : Kind) × (looked ≡ Dispute x)
-          parties-pair pair is =
-              ⊎-elim (λ disputed. disputed) (λ not-one. absurd (given-not-refused pair 11 (sym is ∙ parties-no-dispute not-one))) disputed-or-not
+              by-entry false (lt-leb 257 (entryOf looked) (below-257 looked range not-one))

@@ -2,7 +2,7 @@
 --     tally-counts    each caller's number is the count of that caller's edits accepted since the last accepted open, or 4,294,967,295 where there
 --                     were more
 -- Assumes nothing.
-use mathlib.Core.Path.{_≡_, sym, ap, _∙_}
+use mathlib.Core.Path.{_≡_, refl, sym, ap, _∙_}
 use mathlib.Core.Bool.{Bool, true, false}
 use mathlib.Core.List.{List, [], _∷_}
 use mathlib.Core.Logic.{_≢_, by-cases}
@@ -14,7 +14,7 @@ use lib.Dec.{ltb}
 use lib.ListN.{length, getD, set}
 use lib.Seq.{getD-set-same, getD-set-other}
 use Rattle.tables.specs.Caller.{callers}
-use Rattle.tables.specs.Reply.{refused, given}
+use Rattle.tables.specs.Reply.{given}
 use Rattle.tables.specs.Tables.{Tables, saturated, tallied}
 use Rattle.tables.specs.Calls as calls
 use Rattle.tables.specs.Calls.{Outcome}
@@ -22,7 +22,7 @@ use Rattle.tables.specs.Books.{Edit, Request, Call, editOutcome, answerT
 use Rattle.tables.specs.Books.Edit.{addRule, takeRule, addLink, takeLink}
 use Rattle.tables.specs.Books.Request.{openBook, edit, find, parties, inspect, refresh}
 use Rattle.tables.proofs.BookLaws.{zeros-at, Consistent, opened-consistent, call-consistent}
-use Rattle.tables.proofs.CallLaws.{check-cases, check-given, find-keeps}
+use Rattle.tables.proofs.CallLaws.{check-cases, check-given, find-keeps, parties-keeps}
 use Rattle.tables.proofs.TableLaws.{saturated-next, saturated-full}
 
 abbrev most : ℕ
@@ -75,16 +75,17 @@ module _ (t : Tables) (whole : length (t .tally) ≡ callers) (caller count : �
       check-cases 1 t _ P _ so-far λ _. check-cases 13 t _ P _ so-far λ known. check-cases 2 t _ P _ so-far λ _. check-cases 5 t _ P _ so-far λ _.
       check-cases 8 t _ P _ so-far λ _. one-more n m by _ _ _ known
 
-  find-counts : (k j : ℕ) (accepted : Bool) → Counts (find k j) accepted t
-  find-counts k j true = so-far
-  find-counts k j false = so-far
+  -- a call that is no edit and no open
+  uncounted : (r : Request) (accepted : Bool) → withCall caller r count ≡ count → Counts r accepted t
+  uncounted r true same = so-far ∙ ap (min most) (sym same)
+  uncounted r false same = so-far
 
-  request-counts : (n m : ℕ) (r : Request) → Counts r (accepts (answerTo (refused 0) n m t r .answer)) (answerTo (refused 0) n m t r .tables)
+  request-counts : (n m : ℕ) (r : Request) → Counts r (accepts (answerTo n m t r .answer)) (answerTo n m t r .tables)
   unfolding answerTo calls.openBook calls.inspect calls.refresh
   request-counts n m openBook = check-cases 1 t _ (CountsIn openBook) _ so-far λ _. zeros-at callers caller
   request-counts n m (edit by e) = edit-counts n m by e
-  request-counts n m (find k j) = rw (find-keeps n m t k j) (find-counts k j (isGiven (calls.find n m t k j .reply)))
-  request-counts n m (parties k j) = so-far
+  request-counts n m (find k j) = rw (find-keeps n m t k j) (uncounted (find k j) (isGiven (calls.find n m t k j .reply)) refl)
+  request-counts n m (parties k j) = rw (parties-keeps n m t k j) (uncounted (parties k j) (isGiven (calls.parties n m t k j .reply)) refl)
   request-counts n m inspect = check-cases 1 t _ (CountsIn inspect) _ so-far λ _. so-far
   request-counts n m refresh = check-cases 1 t _ (CountsIn refresh) _ so-far λ _. check-cases 5 t _ (CountsIn refresh) _ so-far λ _. so-far
 

@@ -3,7 +3,6 @@
 --     Answer      what a call answers, of whichever kind it is
 --     RefusedBy   the answer is a refusal of this number
 --     outcome     what a call answers and the tables that it leaves; after: the tables alone
---     Carried     what carrying out a call on tables gives
 --     callOf, answered     the call, and the answer, that the code's values stand for; editOf: the edit
 --     run         the state that a list of calls leaves: each call gets it as the call before left it
 --     editsSince  a caller's edits accepted since the book's last accepted open
@@ -22,7 +21,7 @@ use Rattle.tables.specs.declared.Answer.{Answer as CodeAnswer}
 use Rattle.tables.specs.Reply.{Reply, refused, given, Finding, Fault, TwoKinds, opened, edited, found, paired, inspected}
 use Rattle.tables.specs.Tables.{Tables}
 use Rattle.tables.specs.Calls as calls
-use Rattle.tables.specs.Calls.{Outcome, PartiesGive}
+use Rattle.tables.specs.Calls.{Outcome}
 
 pub data Edit : Type 0 where
   addRule : (kind mark handling : ℕ) → Edit
@@ -75,26 +74,19 @@ editOutcome n m t caller (takeRule kind mark) = calls.takeRule n m t caller kind
 editOutcome n m t caller (addLink child parent) = calls.addLink n m t caller child parent
 editOutcome n m t caller (takeLink child parent) = calls.takeLink n m t caller child parent
 
--- parties, whose answer is left open, gives `pair` and writes to no table
-unfoldable pub answerTo : (pair : Reply TwoKinds) → (n m : ℕ) → Tables → Request → Result
-answerTo pair n m t openBook = told opening (calls.openBook n m t)
-answerTo pair n m t (edit caller e) = told editing (editOutcome n m t caller e)
-answerTo pair n m t (find kind mark) = told finding (calls.find n m t kind mark)
-answerTo pair n m t (parties kind mark) = gives (pairing pair) t
-answerTo pair n m t inspect = told inspecting (calls.inspect n m t)
-answerTo pair n m t refresh = told editing (calls.refresh n m t)
+unfoldable pub answerTo : (n m : ℕ) → Tables → Request → Result
+answerTo n m t openBook = told opening (calls.openBook n m t)
+answerTo n m t (edit caller e) = told editing (editOutcome n m t caller e)
+answerTo n m t (find kind mark) = told finding (calls.find n m t kind mark)
+answerTo n m t (parties kind mark) = told pairing (calls.parties n m t kind mark)
+answerTo n m t inspect = told inspecting (calls.inspect n m t)
+answerTo n m t refresh = told editing (calls.refresh n m t)
 
-abbrev pub outcome : (pair : Reply TwoKinds) → Call → Tables → Result
-outcome pair call t = answerTo pair (call .n) (call .m) t (call .request)
+abbrev pub outcome : Call → Tables → Result
+outcome call t = answerTo (call .n) (call .m) t (call .request)
 
 abbrev pub after : Call → Tables → Tables
-after call t = outcome (refused 0) call t .tables
-
--- the answer and the tables are the outcome of the call; where parties is asked, what it gives is a reply that it may give
-pub record Carried (call : Call) (before : Tables) (answer : Answer) (left : Tables) : Type 0 where
-  pub pair : Reply TwoKinds
-  pub may : (kind mark : ℕ) → call .request ≡ parties kind mark → PartiesGive (call .n) (call .m) before kind mark pair
-  pub carried : gives answer left ≡ outcome pair call before
+after call t = outcome call t .tables
 
 -- ---- as the code has them
 
@@ -159,7 +151,7 @@ countedBy caller false request count = count
 unfoldable pub editsSince : (caller count : ℕ) → List Call → Tables → ℕ
 editsSince caller count [] t = count
 editsSince caller count (call ∷ cs) t =
-    editsSince caller (countedBy caller (accepts (outcome (refused 0) call t .answer)) (call .request) count) cs (after call t)
+    editsSince caller (countedBy caller (accepts (outcome call t .answer)) (call .request) count) cs (after call t)
 
 abbrev pub Agree : List ℕ → List ℕ → Type 0
 Agree xs ys = (i : ℕ) → getD xs i 0 ≡ getD ys i 0

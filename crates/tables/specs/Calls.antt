@@ -1,21 +1,18 @@
 -- What each call answers and what it leaves in the tables, as docs/SCOPE.md has it, call by call. The checks of a call stand in its
 -- order, each with the number of its refusal.
---     openBook, addRule, takeRule, addLink, takeLink, find, inspect, refresh; byCaller: what every edit checks first
---     PartiesGive    parties alone is stated by a property: its refusals are exact, and what it gives are some two different kinds left
+--     openBook, addRule, takeRule, addLink, takeLink, find, parties, inspect, refresh; byCaller: what every edit checks first
 -- Assumes nothing.
-use mathlib.Core.Path.{_≡_}
-use mathlib.Core.Logic.{_≢_}
 use mathlib.Core.Bool.{Bool, true, false, _&&_, _||_, not}
 use mathlib.Core.List.{List}
 use Prim.Native.Nat.{ℕ, zero, suc, _+_, _*_, _-_}
 use lib.Dec.{eqb, leb, ltb}
 use lib.ListN.{getD, replicate, set}
 use Rattle.inheritance.specs.Above.{above}
-use Rattle.inheritance.specs.Lookup.{Left}
+use Rattle.inheritance.specs.Lookup.{left, passing}
 use Rattle.tables.specs.Reply.{Reply, refused, given, Finding, Fault, TwoKinds}
 use Rattle.tables.specs.Caller.{callers}
 use Rattle.tables.specs.Tables.{Tables, lent, shaped, upOf, ownOf, entriesOf, disputesOf, links-right, sound, differing, tallied}
-use Rattle.tables.specs.Tables.{all-below, byte-right, kind-free, entry-right, count-right}
+use Rattle.tables.specs.Tables.{is-dispute, all-below, byte-right, kind-free, entry-right, count-right}
 
 pub record Outcome (A : Type 0) : Type 0 where
   pub reply : Reply A
@@ -123,26 +120,22 @@ find n m t kind mark =
 
 -- ---- Parties
 
--- where the test fails the reply is the refusal of this number, and else as `next` says
-abbrev pub Check : {A : Type 0} → ℕ → Bool → Reply A → Type 0 → Type 0
-Check number true reply next = next
-Check number false reply next = reply ≡ refused number
+-- the kinds left at a kind, lowest first
+abbrev pub kindsLeft : (n m : ℕ) → Tables → (kind mark : ℕ) → List ℕ
+kindsLeft n m t kind mark = passing (left n (upOf n (t .links)) (ownOf m (t .rules) mark) kind) n
 
-pub record TwoParties (n m : ℕ) (t : Tables) (kind mark : ℕ) (reply : Reply TwoKinds) : Type 0 where
-  pub pair : TwoKinds
-  pub gives : reply ≡ given pair
-  pub one-left : Left n (upOf n (t .links)) (ownOf m (t .rules) mark) kind (pair .one)
-  pub other-left : Left n (upOf n (t .links)) (ownOf m (t .rules) mark) kind (pair .other)
-  pub different : pair .one ≢ pair .other
+-- the lowest of them, then the second lowest; at a dispute of sound tables there are two (`parties-dispute`)
+abbrev pub lowestTwo : List ℕ → TwoKinds
+lowestTwo kinds = record { one = getD kinds 0 0; other = getD kinds 1 0 }
 
-abbrev pub PartiesGive : (n m : ℕ) → Tables → (kind mark : ℕ) → Reply TwoKinds → Type 0
-PartiesGive n m t kind mark reply =
-    Check 1 (shaped n m t) reply
-    (Check 2 (ltb kind n) reply
-    (Check 3 (ltb mark m) reply
-    (Check 5 (sound n m t) reply
-    (Check 11 (leb 257 (getD (t .entries) (kind * m + mark) 0)) reply
-    (TwoParties n m t kind mark reply)))))
+unfoldable pub parties : (n m : ℕ) → Tables → (kind mark : ℕ) → Outcome TwoKinds
+parties n m t kind mark =
+    check 1 (shaped n m t) t
+    (check 2 (ltb kind n) t
+    (check 3 (ltb mark m) t
+    (check 5 (sound n m t) t
+    (check 11 (is-dispute (getD (t .entries) (kind * m + mark) 0)) t
+    (leaves (given (lowestTwo (kindsLeft n m t kind mark))) t)))))
 
 -- ---- Inspect
 

@@ -1,6 +1,7 @@
--- `disputing::answer` meets its contract: the tests are those of refusals 5 and 11, and past both two kinds are left.
+-- `disputing::answer` meets its contract: the tests are those of refusals 5 and 11, and past both there are two kinds left, of which `left_pair` gives
+-- the lowest.
 -- Assumes nothing.
-use mathlib.Core.Path.{_≡_, refl, sym, _∙_}
+use mathlib.Core.Path.{_≡_, refl, sym, _∙_, ap}
 use mathlib.Core.Bool.{true}
 use mathlib.Core.List.{List}
 use Prim.Native.Nat.{ℕ, _+_, _*_, _<_, _≤_}
@@ -12,8 +13,9 @@ use borrow.Author.Needs.{needs}
 use borrow.Author.Tests.{not-true, not-false}
 use Rattle.relation.proofs.Zeros.{blank-zeros}
 use Rattle.parting.proofs.PartingLaws.{orderly}
-use Rattle.parting.proofs.PartyLaws.{dispute-two, pair-parties}
+use Rattle.parting.proofs.PartyLaws.{dispute-two, pair-lowest}
 use Rattle.soundness.proofs.Soundness.{rows-links}
+use Rattle.tables.specs.Reply.{paired}
 use Rattle.tables.specs.Tables.{Tables, lent, sound}
 use Rattle.disputing.proofs.PartyLaws.{unsound, no-dispute, disputed}
 use Rattle.disputing.proofs.answer.Statement.{statement}
@@ -75,10 +77,11 @@ returns-3 c tally =
     let (within, _, counts) = start e .pre in
     let t = book e tally in
     let is = is-sound (d .before .before .before) tally in
-    disputed _ _ t _ _ is (is-dispute d)
-    (rw (c .left-pair .ensures _ _ _ (e .examine .ensures .prepared (is-found (d .before .before .before))) (within .mark-below))
-    (pair-parties _ _ t (within .kind-below) (within .mark-below) _ (rows-links _ _ _ (within .sizes .kinds) (e .examine .ensures .loaded (is-found (d .before .before .before))))
-    (dispute-two _ _ t (within .kind-below) (within .mark-below) (within .sizes .kinds) (within .sizes .entries-size) counts is (is-dispute d))))
+    let found = is-found (d .before .before .before) in
+    ap paired (c .left-pair .ensures _ _ _ (e .examine .ensures .prepared found) (within .mark-below))
+    ∙ pair-lowest _ _ t (within .kind-below) (within .mark-below) _ (rows-links _ _ _ (within .sizes .kinds) (e .examine .ensures .loaded found))
+    (dispute-two _ _ t (within .kind-below) (within .mark-below) (within .sizes .kinds) (within .sizes .entries-size) counts is (is-dispute d))
+    ∙ disputed _ _ t _ _ is (is-dispute d)
 
 pub answer-spec : {M : Type 1} → statement M
 answer-spec =

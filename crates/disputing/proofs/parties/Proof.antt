@@ -43,7 +43,7 @@ returns c =
 returns-2 : tie.Need-returns-2
 returns-2 c =
     let k = c .before .before in
-    parties-at _ _ (book (asked k)) _ _ _ (is-at k) (c .answer .ensures (now (start (asked k) .args .tally)))
+    parties-at _ _ (book (asked k)) _ _ (is-at k) (c .answer .ensures (now (start (asked k) .args .tally)))
 
 pub parties-spec : {M : Type 1} → statement M
 parties-spec = tie.close (tie.spec (λ c κs. search needs) (λ c. search needs) (λ c. search needs) answer-requires returns returns-2)

@@ -6,6 +6,7 @@ use lib.Seq.{length-take-le}
 use borrow.Author.Needs.{needs}
 use Rattle.tables.specs.Tables.{Tables, lent}
 use Rattle.session.proofs.PartLaws.{Lending}
+use Rattle.tables.specs.Books.{callOf}
 use Rattle.session.proofs.TurnLaws.{turn-done}
 use Rattle.session.proofs.carry.Statement.{statement}
 use Rattle.session.proofs.carry.Tie as tie
@@ -39,7 +40,7 @@ returns c =
     let d = done (c .before) in
     let k = d .carry-out .kept in
     rw (c .size-after .ensures)
-    (turn-done (lending d) (d .carry-out .ensures) (record { links = k .1 .0; rules = k .1 .1 .0; entries = k .1 .1 .1 .0; disputes = k .1 .1 .1 .1 .1 .0 }) (c .before .print-answer .ensures) _ _ (start d .pre .1))
+    (turn-done (callOf (start d .args .call)) (lending d) (d .carry-out .ensures) (record { links = k .1 .0; rules = k .1 .1 .0; entries = k .1 .1 .1 .0; disputes = k .1 .1 .1 .1 .1 .0 }) (c .before .print-answer .ensures) _ _ (start d .pre .1))
 
 pub carry-spec : {M : Type 1} → statement M
 carry-spec =
