@@ -101,23 +101,7 @@ pub edit-link-spec : {M : Type 1} → statement M
 edit-link-spec =
     tie.close
     (tie.spec
-    examine-requires
-    (λ c. search needs)
-    (λ c. search needs)
-    (λ c. search needs)
-    returns
-    (λ c. search needs)
-    next-requires
-    judge-requires
-    (λ c. search needs)
-    (λ c. search needs)
-    apply-link-requires
-    (λ c. search needs)
-    (λ c. search needs)
-    (λ c. search needs)
-    returns-2
-    (λ c. search needs)
-    (λ c. search needs)
-    (λ c. search needs)
-    (λ c. search needs)
-    returns-3)
+    examine-requires (λ c. search needs) (λ c. search needs) (λ c. search needs) returns
+    (λ c. search needs) next-requires judge-requires (λ c. search needs) (λ c. search needs) apply-link-requires (λ c. search needs)
+    (λ c. search needs) (λ c. search needs) returns-2
+    (λ c. search needs) (λ c. search needs) (λ c. search needs) (λ c. search needs) returns-3)
