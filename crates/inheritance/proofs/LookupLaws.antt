@@ -2,6 +2,7 @@
 --     lookup-none-iff      the lookup is none exactly if nothing is left
 --     lookup-rule-iff      the lookup is the rule of o exactly if only o is left
 --     lookup-dispute-iff   the lookup is a dispute exactly if two or more are left
+--     left-two             where two or more are left, the list of these begins with the two lowest
 --     lookup-range         the lookup of a kind below n names a kind below n: a rule one with its own rule, a dispute one without
 --     lookup-bare          with no rule at all every lookup is none
 -- and, where no kind is above itself:
@@ -14,7 +15,7 @@
 use mathlib.Core.Path.{_≡_, refl, sym, _∙_, ap, ap₂, subst}
 use mathlib.Core.Logic.{_↔_, _⊎_, inl, inr, ⊎-elim}
 use mathlib.Core.Bool.{Bool, true, false, not-eq-not}
-use mathlib.Core.List.{[]}
+use mathlib.Core.List.{List, [], _∷_}
 use Prim.Native.Nat.{ℕ, zero, suc, _<_}
 use native.Mathlib.Nat.{not-suc-le-zero}
 use native.Mathlib.Omega.{arith}
@@ -25,7 +26,7 @@ use Rattle.inheritance.specs.Checked.{kind}
 use Rattle.inheritance.specs.Lookup.{seen, least, left, Left, Two, passing, meet, disputed, decided, inherit, within, lookup}
 use Rattle.inheritance.proofs.AboveLaws.{rank-lt, rank-falls, by-parents}
 use Rattle.inheritance.proofs.MeetLaws.{Held, Shared, meet-cases, meet-shared, meet-keeps, given, given-same, meet-same}
-use Rattle.inheritance.proofs.DecideLaws.{Tells, tells-none, tells-rule, tells-dispute, passing-same, decided-cases, disputed-dispute, disputed-keeps, disputed-cases}
+use Rattle.inheritance.proofs.DecideLaws.{Tells, tells-none, tells-rule, tells-dispute, passing-same, passing-cases, decided-cases, disputed-dispute, disputed-keeps, disputed-cases}
 use Rattle.inheritance.proofs.LeftLaws.{seen-rule, seen-own, left-test, own-left, left-from, left-shared}
 
 abbrev pub InRange : ℕ → (own : ℕ → Bool) → Lookup → Type 0
@@ -58,6 +59,22 @@ module _ (n : ℕ) (up : ℕ → ℕ → Bool) (own : ℕ → Bool) where
       where
         below : {o : ℕ} → LeftAt c o → o < n
         below h = seen-rule n up own c<n (h .is-seen) .0
+
+  -- where two kinds are left, the list of these begins with the two lowest, and what holds of any such list holds of it
+  pub left-two : (P : List ℕ → Type 0) (c : ℕ) → c < n → Two (Left n up own c)
+      → ((o o′ : ℕ) (os : List ℕ) → Left n up own c o → Left n up own c o′ → o < o′ → ((i : ℕ) → Left n up own c i → i < o′ → i ≡ o) → P (o ∷ o′ ∷ os))
+      → P (passing (left n up own c) n)
+  left-two P c c<n (o₁, o₂, h₁, h₂, apart) two =
+      passing-cases P (left n up own c) n
+      (λ none. absurd (none o₁ (below h₁) (test h₁)))
+      (λ o l p only. absurd (apart (only o₁ (below h₁) (test h₁) ∙ sym (only o₂ (below h₂) (test h₂)))))
+      (λ o o′ os l l′ p p′ less first. two o o′ os (left-test n up own c o c<n l .0 p) (left-test n up own c o′ c<n l′ .0 p′) less (λ i h before. first i before (test h)))
+    where
+      below : {o : ℕ} → LeftAt c o → o < n
+      below h = seen-rule n up own c<n (h .is-seen) .0
+
+      test : {o : ℕ} → LeftAt c o → left n up own c o ≡ true
+      test {o} h = left-test n up own c o c<n (below h) .1 h
 
   inherit-tells : (at : ℕ → Lookup) (c : ℕ) → c < n → Tells (LeftAt c) (inherit n up own at c)
   unfolding inherit

@@ -9,9 +9,9 @@ use Prim.Native.Nat.{ℕ, _+_, _*_, _-_, _<_, _≤_}
 use native.Mathlib.Omega.{arith}
 use lib.ListN.{length, getD}
 use Rattle.inheritance.specs.Lookup.{left, Left, Two, passing}
-use Rattle.inheritance.proofs.DecideLaws.{passing-same, passing-cases}
-use Rattle.inheritance.proofs.LeftLaws.{seen-rule, left-test, left-agree}
-use Rattle.inheritance.proofs.LookupLaws.{lookup-dispute-iff}
+use Rattle.inheritance.proofs.DecideLaws.{passing-same}
+use Rattle.inheritance.proofs.LeftLaws.{left-agree}
+use Rattle.inheritance.proofs.LookupLaws.{left-two, lookup-dispute-iff}
 use Rattle.relation.specs.Bit.{bit}
 use Rattle.tables.specs.Calls.{kindsLeft, lowestTwo}
 use Rattle.tables.specs.Entry.{lookupOf}
@@ -40,18 +40,9 @@ module _ (n m : ℕ) (t : Tables) {c j : ℕ} (c<n : c < n) (j<m : j < m) where
   -- the rows have the links
   pub pair-lowest : (rows : List ℕ) → ((c p : ℕ) → c < n → p < n → bit rows c p ≡ upOf n (t .links) c p) → Two (Left n (upOf n (t .links)) (ownOf m (t .rules) j) c)
       → paired (pairOf (passing (left n (bit rows) (ownOf m (t .rules) j) c) n)) ≡ given (lowestTwo (kindsLeft n m t c j))
-  pair-lowest rows same (o₁, o₂, h₁, h₂, apart) =
+  pair-lowest rows same two =
       ap (λ (os : List ℕ). paired (pairOf os)) by-links
-      ∙ passing-cases (λ os. paired (pairOf os) ≡ given (lowestTwo os)) (left n up own c) n
-      (λ none. absurd (none o₁ (below h₁) (test h₁)))
-      (λ o l is only. absurd (apart (only o₁ (below h₁) (test h₁) ∙ sym (only o₂ (below h₂) (test h₂)))))
-      (λ o o′ os l l′ is is′ less first. refl)
+      ∙ left-two n up own (λ os. paired (pairOf os) ≡ given (lowestTwo os)) c c<n two (λ o o′ os h h′ less first. refl)
     where
       by-links : passing (left n (bit rows) own c) n ≡ passing (left n up own c) n
       by-links = passing-same _ _ n (λ o l. left-agree n (bit rows) up same own own (λ _ _. refl) c o c<n l)
-
-      below : {o : ℕ} → Left n up own c o → o < n
-      below h = seen-rule n up own c<n (h .is-seen) .0
-
-      test : {o : ℕ} → Left n up own c o → left n up own c o ≡ true
-      test {o} h = left-test n up own c o c<n (below h) .1 h

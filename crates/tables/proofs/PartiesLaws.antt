@@ -4,7 +4,7 @@
 --                            has the lower number, and no other kind left has a number below the second (`LowestTwo`)
 --     parties-no-dispute     .. and refusal 11 where it is not
 -- Assumes nothing.
-use mathlib.Core.Path.{_≡_, refl, sym, _∙_, ap}
+use mathlib.Core.Path.{_≡_, refl, _∙_, ap}
 use mathlib.Core.Bool.{Bool, true, false}
 use mathlib.Core.Logic.{_≢_}
 use Prim.Native.Nat.{ℕ, _+_, _*_, _<_, _≤_}
@@ -15,10 +15,8 @@ use lib.ListN.{getD}
 use Rattle.inheritance.specs.declared.Kind.{Kind}
 use Rattle.inheritance.specs.declared.Lookup.{Lookup}
 use Rattle.inheritance.specs.declared.Lookup.the-variants.{None, Rule, Dispute}
-use Rattle.inheritance.specs.Lookup.{lookup, left, Left, Two}
-use Rattle.inheritance.proofs.DecideLaws.{passing-cases}
-use Rattle.inheritance.proofs.LeftLaws.{seen-rule, left-test}
-use Rattle.inheritance.proofs.LookupLaws.{InRange, lookup-range, lookup-dispute-iff}
+use Rattle.inheritance.specs.Lookup.{lookup, Left, Two}
+use Rattle.inheritance.proofs.LookupLaws.{InRange, left-two, lookup-range, lookup-dispute-iff}
 use Rattle.tables.specs.Entry.{entryOf}
 use Rattle.tables.specs.Reply.{refused, given, TwoKinds}
 use Rattle.tables.specs.Tables.{Tables, shaped, upOf, ownOf, entryAt, is-dispute, sound}
@@ -35,37 +33,11 @@ pub record LowestTwo (P : ℕ → Type 0) (pair : TwoKinds) : Type 0 where
   pub no-other : (o : ℕ) → P o → o < pair .other → o ≡ pair .one
 
 module _ (n m : ℕ) (t : Tables) (k j : ℕ) where
-  abbrev IsLeft : ℕ → Type 0
-  IsLeft = Left n (upOf n (t .links)) (ownOf m (t .rules) j) k
-
-  -- where two kinds are left, the list of these begins with the two lowest
   two-lowest : k < n → Two (Left n (upOf n (t .links)) (ownOf m (t .rules) j) k)
       → LowestTwo (Left n (upOf n (t .links)) (ownOf m (t .rules) j) k) (lowestTwo (kindsLeft n m t k j))
-  two-lowest hk (o₁, o₂, h₁, h₂, apart) =
-      passing-cases (λ os. LowestTwo IsLeft (lowestTwo os)) test n
-      (λ none. absurd (none o₁ (below h₁) (is h₁)))
-      (λ o l e only. absurd (apart (only o₁ (below h₁) (is h₁) ∙ sym (only o₂ (below h₂) (is h₂)))))
-      (λ o o′ os l l′ e e′ less first. record {
-        one-holds = left-test n up own k o hk l .0 e;
-        other-holds = left-test n up own k o′ hk l′ .0 e′;
-        in-order = less;
-        no-other = λ i h before. first i before (is h);
-      })
-    where
-      up : ℕ → ℕ → Bool
-      up = upOf n (t .links)
-
-      own : ℕ → Bool
-      own = ownOf m (t .rules) j
-
-      test : ℕ → Bool
-      test = left n up own k
-
-      below : {o : ℕ} → IsLeft o → o < n
-      below h = seen-rule n up own hk (h .is-seen) .0
-
-      is : {o : ℕ} → IsLeft o → test o ≡ true
-      is {o} h = left-test n up own k o hk (below h) .1 h
+  two-lowest hk two =
+      left-two n (upOf n (t .links)) (ownOf m (t .rules) j) (λ os. LowestTwo (Left n (upOf n (t .links)) (ownOf m (t .rules) j) k) (lowestTwo os)) k hk two
+      (λ o o′ os h h′ less first. record { one-holds = h; other-holds = h′; in-order = less; no-other = first })
 
   -- ---- the refusals
 
