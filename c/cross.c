@@ -500,6 +500,17 @@ static void try_old(const struct book *b) {
     try_mended(old, HOUSE_WRONG_ENTRY + lowest, count, b);
 }
 
+/* Every other entry may be anything, and the counts too: where the links have a fault refresh leaves them all, and else
+   it makes them right. */
+static void try_any_entries(struct book b) {
+    for (unsigned i = 0; i < (unsigned)b.n * b.m; i++)
+        if (chance() % 2 == 0) b.entries[i] = between(0, chance() % 2 == 0 ? 300 : 65535);
+    draw_counts(&b);
+    uint32_t fault = inspected(&b);
+    try_call(INSPECT, &b, good, fault);
+    try_call(REFRESH, &b, good, fault);
+}
+
 static void try_book(const struct book *b) {
     struct book damaged = *b;
     books++;
@@ -507,6 +518,7 @@ static void try_book(const struct book *b) {
     try_lengths(b);
     try_wrong_counts(b);
     try_old(b);
+    try_any_entries(*b);
     /* one entry wrong, then one link byte */
     uint16_t *entry = &damaged.entries[books % ((unsigned)b->n * b->m)];
     *entry ^= (uint16_t)(chance() % 2 == 0 ? 1 + books % 3 : 256);
@@ -514,6 +526,7 @@ static void try_book(const struct book *b) {
     try_calls(&damaged);
     damaged = *b;
     damaged.links[books % ((unsigned)b->n * b->n)] ^= (uint8_t)(1 + books % 3);
+    try_any_entries(damaged);
     draw_counts(&damaged);
     try_calls(&damaged);
 }

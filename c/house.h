@@ -45,9 +45,9 @@
    included, or a copy is edited and swapped in once the call is back, and lanes go on with the old one meanwhile. The
    library keeps nothing between calls, so calls on different books may run at the same time.
 
-   MEMORY. A call takes stack and nothing else. Leave it 40 KB: c/stack.c measures 39 KB for inspect, 37 KB for refresh,
-   24 KB for parties and 22 KB for an edit, on 128 kinds in one chain of links, which calls go along by recursion. Open
-   takes what memset takes.
+   MEMORY. A call takes stack and nothing else. Leave it 24 KB, and inspect 40 KB: c/stack.c measures 37 KB for inspect,
+   which works the lookups out beside the entries, and 24 KB for parties, 22 KB for an edit and 21 KB for refresh, on 128
+   kinds in one chain of links, which calls go along by recursion. Open takes what memset takes.
 
    FOR LANES the same memory goes to lane_find as bytes, whose order lane.h asks for is that of x86-64:
 

@@ -10,7 +10,7 @@
 
 #include "house.h"
 
-enum { N = 128, M = 64, LEFT = 40 * 1024, FILL = 165 };
+enum { N = 128, M = 64, LEFT = 24 * 1024, LEFT_TO_INSPECT = 40 * 1024, FILL = 165 };
 
 static uint8_t links[N * N];
 static uint16_t rules[N * M], entries[N * M], disputes[M];
@@ -54,15 +54,16 @@ static const struct {
     const char *name;
     void (*make)(void);
     uint32_t answer;
+    size_t left;
 } calls[] = {
-    {"add rule", add_rule, N},
-    {"take rule", take_rule, N},
-    {"take link", take_link, 0},
-    {"add link", add_link, 0},
-    {"parties", parties, HOUSE_REFUSED_NO_DISPUTE},
-    {"refresh", refresh, 0},
-    {"inspect", inspect, HOUSE_SOUND},
-    {"open", open_book, 0},
+    {"add rule", add_rule, N, LEFT},
+    {"take rule", take_rule, N, LEFT},
+    {"take link", take_link, 0, LEFT},
+    {"add link", add_link, 0, LEFT},
+    {"parties", parties, HOUSE_REFUSED_NO_DISPUTE, LEFT},
+    {"refresh", refresh, 0, LEFT},
+    {"inspect", inspect, HOUSE_SOUND, LEFT_TO_INSPECT},
+    {"open", open_book, 0, LEFT},
 };
 
 /* Makes a call on a stack that is filled with one number, and counts from its upper end to the lowest byte that is
@@ -92,8 +93,8 @@ int main(void) {
     for (size_t i = 0; i < sizeof calls / sizeof *calls; i++) {
         size_t taken = used(calls[i].make) - unrelated;
         printf("%s takes %zu bytes of stack\n", calls[i].name, taken);
-        if (answer != calls[i].answer || taken > LEFT) {
-            fprintf(stderr, "%s answered %u, or took more than %d bytes\n", calls[i].name, (unsigned)answer, LEFT);
+        if (answer != calls[i].answer || taken > calls[i].left) {
+            fprintf(stderr, "%s answered %u, or took more than %zu bytes\n", calls[i].name, (unsigned)answer, calls[i].left);
             return EXIT_FAILURE;
         }
     }

@@ -1,5 +1,5 @@
-/* Times the four edits of the static library against the twin in C and against the base, the library of another commit, in one run: on books of three
-   sizes where parents differ at few, some and many places. All do the same edits on books of their own, batch by batch in turns; their answers and
+/* Times the four edits and refresh of the static library against the twin in C and against the base, the library of another commit, in one run: on books of three
+   sizes where parents differ at few, some and many places. All do the same calls on books of their own, batch by batch in turns; their answers and
    tables are compared as they go. */
 #define _POSIX_C_SOURCE 199309L /* for clock_gettime */
 #include "base.h"
@@ -10,7 +10,7 @@
 #include <string.h>
 #include <time.h>
 
-enum { PLACES = 48, ROUNDS = 60, REPEATS = 9, LIBRARY = 0, TWIN = 1, BASE = 2, SIDES = 3 };
+enum { PLACES = 48, ROUNDS = 60, REPEATS = 9, LIBRARY = 0, TWIN = 1, BASE = 2, SIDES = 3, CALLS = 5 };
 
 static uint64_t state = 88172645463325252ull;
 static uint32_t random_below(uint32_t k) {
@@ -103,8 +103,17 @@ static uint32_t base_1(const struct book *b, struct edit e) { return base_add_ru
 static uint32_t base_2(const struct book *b, struct edit e) { return base_take_rule(BASE_TABLES(b), e.caller, e.x, e.y); }
 static uint32_t base_3(const struct book *b, struct edit e) { return base_add_link(BASE_TABLES(b), e.caller, e.x, e.y); }
 static uint32_t base_4(const struct book *b, struct edit e) { return base_take_link(BASE_TABLES(b), e.caller, e.x, e.y); }
-static call *const calls[SIDES][4] = {{house_1, house_2, house_3, house_4}, {twin_1, twin_2, twin_3, twin_4}, {base_1, base_2, base_3, base_4}};
-static const char *const name[4] = {"add rule", "take rule", "add link", "take link"};
+
+/* Before a refresh one rule becomes another, or is put in or taken out, behind the back of the entries. */
+static void disturb(const struct book *b, struct edit e) { b->rules[(size_t)e.x * b->m + e.y] ^= e.value; }
+static uint32_t house_5(const struct book *b, struct edit e) { return disturb(b, e), house_refresh(TABLES(b)); }
+static uint32_t twin_5(const struct book *b, struct edit e) { return disturb(b, e), twin_refresh(b); }
+static uint32_t base_5(const struct book *b, struct edit e) { return disturb(b, e), base_refresh(BASE_TABLES(b)); }
+
+static call *const calls[SIDES][CALLS] = {
+    {house_1, house_2, house_3, house_4, house_5}, {twin_1, twin_2, twin_3, twin_4, twin_5}, {base_1, base_2, base_3, base_4, base_5}};
+static const char *const name[CALLS] = {"add rule", "take rule", "add link", "take link", "refresh"};
+static const int of_links[CALLS] = {0, 0, 1, 1, 0};
 
 static int compare(const void *a, const void *b) {
     double x = *(const double *)a, y = *(const double *)b;
@@ -175,7 +184,7 @@ static void choose(uint16_t n, uint16_t m, struct edit *rules, struct edit *link
 static int run(const struct shape *s) {
     struct book books[SIDES];
     struct edit rules[PLACES], links[PLACES];
-    static double times[SIDES][4][REPEATS];
+    static double times[SIDES][CALLS][REPEATS];
     double differ = 0;
     uint64_t sum[SIDES] = {0};
     for (int side = 0; side < SIDES; side++) books[side] = new_book(s->n, s->m, side != BASE || BASE_COUNTS ? s->m : 0);
@@ -184,17 +193,17 @@ static int run(const struct shape *s) {
         for (int round = 0; round < ROUNDS; round++) {
             differ += renew(books, s) / (REPEATS * ROUNDS);
             choose(s->n, s->m, rules, links);
-            for (int k = 0; k < 4; k++) {
+            for (int k = 0; k < CALLS; k++) {
                 for (int i = 0; i < SIDES; i++) {
                     int side = (round + i) % SIDES; /* who comes first on a new book takes longer: caches do not hold it yet */
-                    times[side][k][r] += batch(calls[side][k], &books[side], k < 2 ? rules : links, &sum[side]) / ROUNDS;
+                    times[side][k][r] += batch(calls[side][k], &books[side], of_links[k] ? links : rules, &sum[side]) / ROUNDS;
                 }
                 for (int side = TWIN; side < SIDES; side++)
                     if (sum[side] != sum[LIBRARY] || !same(&books[LIBRARY], &books[side]))
                         return printf("%u x %u: %s differs\n", s->n, s->m, name[k]), 1;
             }
         }
-    for (int k = 0; k < 4; k++) {
+    for (int k = 0; k < CALLS; k++) {
         double x = median(times[LIBRARY][k], REPEATS), y = median(times[TWIN][k], REPEATS), z = median(times[BASE][k], REPEATS);
         printf("%3u x %2u  %-4s (%2.0f %%)  %-9s  %6.2f us  C %6.2f us  ratio %.2f  base %6.2f us  ratio %.2f\n", s->n, s->m, s->much, differ, name[k],
                x, y, x / y, z, x / z);

@@ -1,6 +1,6 @@
-/* The four edits by hand, as quick as we could make them in plain C99: links read eight bytes at a time, the kinds put in order by one climb, entries
-   worked out a row of marks at a time, where parents differ by the rule kinds left, and after an edit only for the kinds that it reaches. It counts on
-   a machine that stores the lowest byte of a number first. */
+/* The four edits and refresh by hand, as quick as we could make them in plain C99: links read eight bytes at a time, the kinds put in order by one
+   climb, entries worked out a row of marks at a time, where parents differ by the rule kinds left, and after an edit only for the kinds that it reaches.
+   It counts on a machine that stores the lowest byte of a number first. */
 #include "twin.h"
 #include <string.h>
 
@@ -217,15 +217,15 @@ static uint32_t settle(const struct book *b, const struct view *v, size_t c, siz
     return was != high;
 }
 
-/* The entries of kind c worked out and written. How many were others. */
-static uint32_t settle_row(const struct book *b, const struct view *v, size_t c) {
+/* The entries of kind c worked out and written. How many were others. Those that were there are in the counts, or not: `counted` is 1 or 0. */
+static inline uint32_t settle_row(const struct book *b, const struct view *v, size_t c, uint16_t counted) {
     size_t m = b->m;
     uint16_t out[MARKS], *restrict entries = b->entries + c * m, *restrict disputes = b->disputes;
     uint32_t count = 0;
     work_out(b, v, c, out);
     for (size_t j = 0; j < m; j++) {
         count += entries[j] != out[j];
-        disputes[j] = recounted(disputes[j], entries[j], out[j]);
+        disputes[j] = recounted(disputes[j], (uint16_t)(counted * entries[j]), out[j]);
         entries[j] = out[j];
     }
     return count;
@@ -263,7 +263,7 @@ static uint32_t set_link(const struct book *b, struct view *v, size_t caller, si
         if (!has(v->reach[c], last)) continue;
         v->reach[c] = only(i);
         for (struct set up = v->parents[c]; !empty(up); drop_first(&up)) v->reach[c] = either(v->reach[c], v->reach[first(up)]);
-        count += settle_row(b, v, c);
+        count += settle_row(b, v, c, 1);
     }
     add_to_tally(b, caller);
     return count;
@@ -310,4 +310,16 @@ uint32_t twin_take_link(const struct book *b, uint16_t caller, uint16_t child, u
     if (!sound(b, &v)) return REFUSED + 5;
     if (!has(v.parents[child], parent)) return REFUSED + 8;
     return set_link(b, &v, caller, child, parent, 0);
+}
+
+/* The kinds from the last place to the first, so that parents come first. */
+uint32_t twin_refresh(const struct book *b) {
+    struct view v;
+    uint32_t count = 0;
+    if (!shaped(b)) return REFUSED + 1;
+    if (!read_links(b, &v) || !arrange(&v, b->n)) return REFUSED + 5;
+    read_rules(b, &v);
+    memset(b->disputes, 0, b->m * sizeof *b->disputes);
+    for (size_t i = b->n; i-- > 0;) count += settle_row(b, &v, v.order[i], 0);
+    return count;
 }

@@ -1,4 +1,4 @@
-/* The four edits by hand in C: the same checks and the same answers as the proved calls, on the same tables. */
+/* The four edits and refresh by hand in C: the same checks and the same answers as the proved calls, on the same tables. */
 #ifndef TWIN_H
 #define TWIN_H
 #include <stddef.h>
@@ -22,4 +22,5 @@ uint32_t twin_add_rule(const struct book *b, uint16_t caller, uint16_t kind, uin
 uint32_t twin_take_rule(const struct book *b, uint16_t caller, uint16_t kind, uint16_t mark);
 uint32_t twin_add_link(const struct book *b, uint16_t caller, uint16_t child, uint16_t parent);
 uint32_t twin_take_link(const struct book *b, uint16_t caller, uint16_t child, uint16_t parent);
+uint32_t twin_refresh(const struct book *b);
 #endif

@@ -2,8 +2,9 @@
 use closing::close;
 use inheritance::Kind;
 use inheritance::Mark;
-use lookups::look_up;
 use relation::test;
+use settling::settle_all;
+use soundness::examine_links;
 use tables::Inspected;
 use tables::Refusal;
 ghost use mathlib.Core.Path.{_≡_};
@@ -75,7 +76,7 @@ fn entry_fault(entries: &[u16], lookups: &[u16], disputes: &[u16], counts: &[u16
 }
 
 // Sound, or the first fault. Where a kind is above itself there are no lookups to compare with, so the links are judged
-// first.
+// first. The lookups are worked out apart from the entries, which are not written: an entry that agrees with a wrong one is wrong.
 pub fn inspect(
     n: u16,
     m: u16,
@@ -92,22 +93,26 @@ pub fn inspect(
         return Inspected::Refused(Refusal::Shape);
     }
     let mut rows = [0u64; 256];
-    let mut scratch = [0u16; 8192];
-    let lookups = &mut scratch[..entries.len()];
-    let mut counted = [0u16; 64];
-    let counts = &mut counted[..disputes.len()];
-    let linked = look_up(
-        n as usize,
-        m as usize,
-        links,
-        rules,
-        &mut rows,
-        lookups,
-        counts,
-    );
+    let mut order = [0u8; 128];
+    let mut reach = [0u64; 256];
+    let linked = examine_links(n as usize, links, &mut rows, &mut order, &mut reach);
     if !linked {
         close(&mut rows, n as usize);
         return link_fault(n as usize, links, &rows);
     }
+    let mut scratch = [0u16; 8192];
+    let lookups = &mut scratch[..entries.len()];
+    let mut counted = [0u16; 64];
+    let counts = &mut counted[..disputes.len()];
+    settle_all(
+        &rows,
+        &order,
+        &reach,
+        n as usize,
+        m as usize,
+        rules,
+        lookups,
+        counts,
+    );
     entry_fault(entries, lookups, disputes, counts)
 }

@@ -1,5 +1,5 @@
 -- What the proofs of several functions use.
 pub mod Editing
-pub mod GatherLaws
 pub mod Order
 pub mod Writing
+pub mod WholeLaws

@@ -2,7 +2,7 @@
 --     Written             the entries of kind c for the marks from lo to below hi became as f says, and nothing else changed
 --     Settling            the kinds at the last t places are worked out; `count` entries differ so far from those at the start
 --     Awaiting, Settled   what `settle` asks and ensures of the entries
---     LookupsGathered     the table has every lookup of the links that are in the rows, and the counts are those of its disputes
+--     AllSettled          every entry is its lookup, `count` of them differ from before, and the dispute counts are those of the entries
 -- Assumes nothing.
 use mathlib.Core.Path.{_≡_}
 use mathlib.Core.Logic.{_≢_, _⊎_}
@@ -10,7 +10,6 @@ use mathlib.Core.Bool.{Bool}
 use mathlib.Core.List.{List}
 use Prim.Native.Nat.{ℕ, _+_, _*_, _<_, _≤_}
 use lib.ListN.{length, getD}
-use Rattle.relation.specs.Bit.{bit}
 use Rattle.propagation.specs.Spread.{Visited}
 use Rattle.tables.specs.Tables.{entryAt, entriesOf, disputesOf, differing}
 
@@ -40,7 +39,7 @@ pub record Settled (n m lo hi : ℕ) (up : ℕ → ℕ → Bool) (rules old new 
   pub kept : (c j : ℕ) → c < n → j < m → (j < lo) ⊎ (hi ≤ j) → getD new (c * m + j) 0 ≡ getD old (c * m + j) 0
   pub counted : count ≡ differing old new
 
-pub record LookupsGathered (n m : ℕ) (rows rules table counts : List ℕ) : Type 0 where
-  pub size : length table ≡ n * m
-  pub looked : table ≡ entriesOf n m (bit rows) rules
-  pub counted : counts ≡ disputesOf n m table
+pub record AllSettled (n m : ℕ) (up : ℕ → ℕ → Bool) (rules old new disputes : List ℕ) (count : ℕ) : Type 0 where
+  pub looked : new ≡ entriesOf n m up rules
+  pub counted : count ≡ differing old new
+  pub recounted : disputes ≡ disputesOf n m new

@@ -1,5 +1,5 @@
 // Entries worked out after a change: one step of inheritance works out the row of a kind, which is written and counted, kind
-// after kind, those above a kind before it. `settle` does so for the kinds that an edit can touch, `gather` for a whole book.
+// after kind, those above a kind before it. `settle` does so for the kinds that an edit can touch, `settle_all` for a whole book.
 // The dispute counts follow each entry that is written.
 use counting::count_disputes;
 use counting::recount;
@@ -22,7 +22,7 @@ ghost use Rattle.tables.specs.Tables.{differ, Sized};
 ghost use Rattle.deciding.specs.Deciding.{Prepared};
 ghost use Rattle.deciding.specs.Row.{Row};
 ghost use Rattle.merging.specs.Merged.{MarkRange};
-ghost use Rattle.settling.specs.Settled.{Written, Awaiting, Settled, LookupsGathered};
+ghost use Rattle.settling.specs.Settled.{Written, Awaiting, Settled, AllSettled};
 
 // The entries of kind c for the marks from lo to below hi, worked out from its own rules, its parents' entries and, where
 // these differ, the kinds left.
@@ -51,7 +51,7 @@ fn inherit_row(
 }
 
 // An entry is written. 1 where it was another.
-pub fn put(entries: &mut [u16], i: usize, e: u16) -> u16
+fn put(entries: &mut [u16], i: usize, e: u16) -> u16
     requires { ⌜ i < length (now entries) ⌝ }
     ensures { λ r. ⌜ (now (entries .exit) ≡ set (now (entries .entry)) i e) × (r ≡ differ (getD (now (entries .entry)) i 0) e) × (r ≤ 1) ⌝ }
 {
@@ -214,22 +214,23 @@ pub fn settle(
     count
 }
 
-// The lookups and their dispute counts are written, whatever was there: what was there is counted first, and every kind counts
-// as visited. The rows have the links, the kinds stand in the order, and reach has the places of the kinds at or above each.
-pub fn gather(
+// Every entry becomes its lookup, and every dispute count that of its mark, whatever was there: the disputes that were there are
+// counted first, and every kind counts as visited. The rows have the links, the kinds stand in the order, and reach has the
+// places of the kinds at or above each. How many entries were others.
+pub fn settle_all(
     rows: &[u64; 256],
     order: &[u8; 128],
     reach: &[u64; 256],
     n: usize,
     m: usize,
     rules: &[u16],
-    lookups: &mut [u16],
-    counts: &mut [u16],
-)
-    requires { ⌜ (Sized n m (now rules) (now lookups)) × (Arranged n (now rows) (now order) (now reach)) × (1 ≤ m) × (length (now counts) ≡ m) ⌝ }
-    ensures { λ _. ⌜ LookupsGathered n m (now (rows .entry)) (now (rules .entry)) (now (lookups .exit)) (now (counts .exit)) ⌝ }
+    entries: &mut [u16],
+    disputes: &mut [u16],
+) -> u16
+    requires { ⌜ (Sized n m (now rules) (now entries)) × (Arranged n (now rows) (now order) (now reach)) × (1 ≤ m) × (length (now disputes) ≡ m) ⌝ }
+    ensures { λ k. ⌜ AllSettled n m (bit (now (rows .entry))) (now (rules .entry)) (now (entries .entry)) (now (entries .exit)) (now (disputes .exit)) k ⌝ }
 {
-    count_disputes(n, m, lookups, counts);
+    count_disputes(n, m, entries, disputes);
     let mut ruled = [0u64; 256];
     rule_rows(rules, n, m, order, &mut ruled);
     let visited = [1u8; 128];
@@ -244,7 +245,7 @@ pub fn gather(
         m,
         &visited,
         rules,
-        lookups,
-        counts,
-    );
+        entries,
+        disputes,
+    )
 }

@@ -6,6 +6,7 @@
 --     links-tests                        the tests of the code are those of `links-right`
 --     counts-tests                       .. and the comparison with what is counted is that of `count-right`
 --     sound-wrong, sound-right           .. and all are those of `sound`, where the links are wrong, and where they are right
+--     examined-entries                   where the links are right, the lookups by the rows are those by the links
 -- Assumes nothing.
 use mathlib.Core.Path.{_≡_, refl, sym, _∙_, ap, ap₂}
 use mathlib.Core.Bool.{Bool, true, false, _&&_, true≢false, and-eq-true-iff}
@@ -20,9 +21,11 @@ use Rattle.arranging.specs.Arranged.{Arrangement}
 use Rattle.relation.specs.Bit.{bit}
 use Rattle.loading.specs.Loaded.{Loaded, Tested, link}
 use Rattle.tables.specs.Step.{right}
-use Rattle.tables.specs.Tables.{lent, upOf, all-below, byte-right, bytes-right, well-linked, links-right, count-right, disputesOf, sound-over, sound}
+use Rattle.deciding.proofs.DecidingLaws.{arranged-acyclic}
+use Rattle.soundness.specs.Examined.{LinksExamined}
+use Rattle.tables.specs.Tables.{lent, upOf, entriesOf, all-below, byte-right, bytes-right, well-linked, links-right, count-right, disputesOf, sound-over, sound}
 use Rattle.tables.proofs.DisputeLaws.{disputes-at}
-use Rattle.tables.proofs.SoundLaws.{free-means, means-free, free-agree, right-up, sound-by-steps}
+use Rattle.tables.proofs.SoundLaws.{free-means, means-free, free-agree, entriesOf-agree, right-up, sound-by-steps}
 use Rattle.tables.proofs.TableLaws.{below-true, below-same}
 
 -- the bytes alone
@@ -90,3 +93,9 @@ module _ (n : ℕ) (links rows : List ℕ) (kinds : n ≤ 128) (loaded : Loaded 
       ∙ ap (λ (b : Bool). b && all-below (count-right n m entries disputes) m) (right-up n m (bit rows) (upOf n links) rules entries rows-links)
       ∙ and-holds (bytes-right n links) (well-linked n (upOf n links)) _ _ e
       ∙ sym (sound-by-steps n m (lent links rules entries tally disputes) size (omega arith))
+
+pub examined-entries : {n : ℕ} {links rows order reach : List ℕ} {r : Bool} → n ≤ 128 → length links ≡ n * n → LinksExamined n links rows order reach r → r ≡ true
+    → (m : ℕ) (rules : List ℕ) → entriesOf n m (bit rows) rules ≡ entriesOf n m (upOf n links) rules
+examined-entries {n} {links} {rows} kinds size x found m rules =
+    let loaded = x .loaded (linked-bytes n links size (sym (x .answer) ∙ found)) in
+    entriesOf-agree n (bit rows) (upOf n links) (rows-links n links rows kinds loaded) m (omega arith) (arranged-acyclic n rows _ _ (x .arranged found)) rules

@@ -1,12 +1,13 @@
--- What holds of every accepted edit, whatever tables it was lent.
+-- What holds of every accepted edit, and of refresh, whatever tables it was lent.
 --     addRule-edits, takeRule-edits     the one rule changes, and `RuleEdited` holds
 --     addLink-edits, takeLink-edits     the one link changes, and `LinkEdited` holds
+--     refresh-renews                    `Refreshed` holds of an accepted refresh
 --     replaced-none                     a replaced handling returns 0
 --     untouched-none, none-kept         where the parent's entry for a mark is 0, an edit of the link to it can touch nothing, and no entry of the mark changes
 --     Passed, passed                    what a call knows whose checks of shape and soundness were passed
 --     changed-bytes                     every link byte is 0 or 1 after a link is added or taken
 --     added-acyclic, taken-acyclic      no kind is above itself after a link is added or taken
--- Each says: only the stated place of rules or links changes; the tables are sound again; entries differ only where the edit can touch, which comes
+-- Each of the four says: only the stated place of rules or links changes; the tables are sound again; entries differ only where the edit can touch, which comes
 -- out the same before and after; a dispute count differs only where the entry of some kind for the mark does; the count is the number of places whose
 -- entry differs; of the tally only the caller's number moves.
 -- Assumes nothing.
@@ -31,14 +32,14 @@ use Rattle.inheritance.proofs.TouchLaws.{below-carries, upto-carries, rule-touc
 use Rattle.tables.specs.Caller.{callers}
 use Rattle.tables.specs.Entry.{entryOf}
 use Rattle.tables.specs.Reply.{given}
-use Rattle.tables.specs.Tables.{Tables, shaped, LengthsOf, Sized, upOf, ownOf, entryAt, grid, entriesOf, sound, differing, tallied}
+use Rattle.tables.specs.Tables.{Tables, shaped, LengthsOf, Sized, upOf, ownOf, entryAt, grid, entriesOf, bytes-right, sound, differing, tallied}
 use Rattle.tables.specs.Touch.{RuleTouches, LinkTouches}
-use Rattle.tables.specs.Edit.{OnePlace, apart, Edited, RuleEdited, LinkEdited}
-use Rattle.tables.specs.Calls.{accepted, addRule, takeRule, addLink, takeLink}
+use Rattle.tables.specs.Edit.{OnePlace, apart, Edited, RuleEdited, LinkEdited, Refreshed}
+use Rattle.tables.specs.Calls.{accepted, addRule, takeRule, addLink, takeLink, refresh}
 use Rattle.tables.proofs.CallLaws.{check-given}
 use Rattle.tables.proofs.DisputeLaws.{some-place}
 use Rattle.tables.proofs.ShapeLaws.{sized-facts, shape-sized}
-use Rattle.tables.proofs.SoundLaws.{Sound, sound-means, means-sound, length-entriesOf, entriesOf-at, entries-looked}
+use Rattle.tables.proofs.SoundLaws.{bytes-mean, free-means, Sound, sound-means, means-sound, length-entriesOf, entriesOf-at, entries-looked}
 use Rattle.tables.proofs.TableLaws.{place-split, differing-self, differing-count}
 
 -- ---- one place set
@@ -60,6 +61,12 @@ accepted-count : (n m : ℕ) (t : Tables) (caller : ℕ) (links rules : List ℕ
     → returned ≡ differing (t .entries) (entriesOf n m (upOf n links) rules)
 unfolding accepted
 accepted-count n m t caller links rules returned is = cc
+
+-- how many entries differ from their lookups, place by place
+lookups-apart : (n m : ℕ) (up : ℕ → ℕ → Bool) (rules old : List ℕ) → length old ≡ n * m
+    → differing old (entriesOf n m up rules) ≡ count (apart old (entriesOf n m up rules)) (n * m)
+lookups-apart n m up rules old size =
+    differing-count old (entriesOf n m up rules) (size ∙ sym (length-entriesOf n m up rules)) ∙ ap (λ (x : ℕ). count (apart old (entriesOf n m up rules)) x) size
 
 -- handling numbers play no part in the entries
 entriesOf-own : (n m : ℕ) (up : ℕ → ℕ → Bool) (rules rules′ : List ℕ) → ((j c : ℕ) → ownOf m rules j c ≡ ownOf m rules′ j c)
@@ -100,10 +107,7 @@ module _ (n m : ℕ) (t : Tables) (size : length (t .entries) ≡ n * m) (before
       touched = touched;
       same-reading = same-reading;
       recounted = λ j differ. some-place n m (t .entries) (after .entries) j (λ same. differ (ap (λ (l : List ℕ). getD l j 0) (before .disputes) ∙ same));
-      counted =
-          accepted-count n m t caller links rules returned is
-          ∙ differing-count (t .entries) (entriesOf n m (upOf n links) rules) (size ∙ sym (length-entriesOf n m (upOf n links) rules))
-          ∙ ap (λ (x : ℕ). count (apart (t .entries) (entriesOf n m (upOf n links) rules)) x) size;
+      counted = accepted-count n m t caller links rules returned is ∙ lookups-apart n m (upOf n links) rules (t .entries) size;
     }
 
   -- ---- an edit of a rule
@@ -373,3 +377,20 @@ module _ (n m : ℕ) (t : Tables) where
           accepted-count n m t caller (t .links) (set (t .rules) place handling) returned is
           ∙ ap (differing (t .entries)) (entriesOf-own n m (upOf n (t .links)) _ _ (own-same s kind-in mark-in some) ∙ sym (s .before .entries))
           ∙ differing-self (t .entries)
+
+  pub refresh-renews : (returned : ℕ) → refresh n m t .reply ≡ given returned → Refreshed n m t (refresh n m t .tables) returned
+  unfolding refresh
+  refresh-renews returned =
+      let P : Tables → Type 0 = λ t′. Refreshed n m t t′ returned in
+      check-given 1 t _ P _ λ fits. check-given 5 t _ P _ λ right is.
+      let (bytes, free) = and-eq-true-iff (bytes-right n (t .links)) _ .0 right in
+      let size = shape-sized n m t (sized-facts 1 1 n m _ _ _ _ _ fits) .entries-size in
+      let same : returned ≡ differing (t .entries) (entriesOf n m (upOf n (t .links)) (t .rules)) = cc in
+      record {
+        links-kept = refl;
+        rules-kept = refl;
+        tally-kept = refl;
+        sound-after = means-sound n m _ (length-entriesOf n m (upOf n (t .links)) (t .rules))
+            (record { bytes = bytes-mean n (t .links) bytes; acyclic = free-means n (upOf n (t .links)) free; entries = refl; disputes = refl });
+        counted = same ∙ lookups-apart n m (upOf n (t .links)) (t .rules) (t .entries) size;
+      }

@@ -1,7 +1,8 @@
--- What docs/SCOPE.md says of an accepted edit of a caller that led from tables t to tables t′ and returned a count. EditLaws has it of the four edits.
+-- What docs/SCOPE.md says of an accepted edit of a caller, or refresh, that led from tables t to tables t′ and returned a count. EditLaws has it of them.
 --     OnePlace                    a table is changed at its one place
 --     Edited                      what holds of every edit, where `Touches` says of the tables before or after which entries it can touch
 --     RuleEdited, LinkEdited      what holds of an edit of a rule, and of a link
+--     Refreshed                   what holds of refresh
 -- Assumes nothing.
 use mathlib.Core.Path.{_≡_}
 use mathlib.Core.Logic.{_≢_, _↔_}
@@ -53,3 +54,11 @@ pub record LinkEdited (n m caller : ℕ) (child parent byte : ℕ) (t t′ : Tab
   pub own-rule-same : (k j : ℕ) → ownOf m (t .rules) j k ≡ ownOf m (t′ .rules) j k
   pub parent-entry-same : (j : ℕ) → j < m → getD (t .entries) (parent * m + j) 0 ≡ getD (t′ .entries) (parent * m + j) 0
   pub edited : Edited n m caller (LinkTouches n m child parent) t t′ returned
+
+pub record Refreshed (n m : ℕ) (t t′ : Tables) (returned : ℕ) : Type 0 where
+  pub links-kept : t′ .links ≡ t .links
+  pub rules-kept : t′ .rules ≡ t .rules
+  pub tally-kept : t′ .tally ≡ t .tally
+  pub sound-after : sound n m t′ ≡ true
+  -- the number of places kind × m + mark whose entry after it is not the entry before
+  pub counted : returned ≡ count (apart (t .entries) (t′ .entries)) (n * m)

@@ -2,10 +2,12 @@
 -- Assumes nothing.
 use mathlib.Core.Path.{_≡_, sym, _∙_}
 use mathlib.Core.Logic.{⊎-elim}
-use Prim.Native.Nat.{_-_, _<_, _≤_}
-use native.Mathlib.Nat.{mul-le-mul}
+use Prim.Native.Nat.{ℕ, _-_, _<_, _≤_}
+use native.Mathlib.Nat.{lt-of-lt-of-le, mul-le-mul}
 use native.Mathlib.Omega.{arith}
 use denote.Ref.{now}
+use mir.Syntax.{w64}
+use mir.Val.{Fits}
 use lib.ListN.{getD}
 use Rattle.counting.specs.Counting.{Counted}
 use Rattle.counting.proofs.CountLaws.{counted-length}
@@ -29,9 +31,15 @@ start l = l .before .before .before .before
 abbrev began : tie.After-if12 Inv-loop μ-loop → tie.At-loop Inv-loop μ-loop
 began c = c .before .before .before
 
--- at the place there is a kind
-is-kind : (c : tie.In-loop Inv-loop μ-loop) → let a = start (c .before) .args in getD (now (a .order)) (a .n - 1 - c .before .loop .t) 0 < a .n
-is-kind c = let s = start (c .before) in s .pre .0 .1 .arranged .kinds (s .args .n - 1 - c .before .loop .t) (omega arith)
+-- at each place there is a kind
+is-kind : (l : tie.At-loop Inv-loop μ-loop) {i : ℕ} → let a = start l .args in i < a .n → getD (now (a .order)) i 0 < a .n
+is-kind l {i} = start l .pre .0 .1 .arranged .kinds i
+
+in-row : (l : tie.At-loop Inv-loop μ-loop) {i : ℕ} → let a = start l .args in i < a .n → getD (now (a .order)) i 0 < 128
+in-row l h = lt-of-lt-of-le (is-kind l h) (start l .pre .0 .0 .kinds)
+
+is-usize : {x : ℕ} → x < 128 → Fits w64 x
+is-usize h = omega (arith, h)
 
 loop-holds : tie.Need-loop-holds Inv-loop μ-loop
 loop-holds c =
@@ -44,7 +52,7 @@ settle-kind-requires c κs =
     let s = start (began test) .pre in
     let sized = s .0 .0 in (
       (record { kinds = sized .kinds; marks = sized .marks; rules-size = sized .rules-size; entries-size = began test .loop .inv .1 .size ∙ sized .entries-size }, s .0 .1),
-      (s .1 .0, is-kind (test .before .before), began test .loop .inv .2),
+      (s .1 .0, is-kind (began test) (omega arith), began test .loop .inv .2),
     )
 
 add-count : tie.Need-add-count Inv-loop μ-loop
@@ -79,6 +87,6 @@ returns c =
 pub settle-spec : {M : Type 1} → statement M
 settle-spec =
     tie.close
-    (tie.spec Inv-loop μ-loop loop-holds (λ c. omega arith) (λ c. omega arith) (λ c. omega arith) (λ c. omega (arith, is-kind (c .before)))
-    (λ c. omega (arith, is-kind (c .before))) settle-kind-requires add-count (λ c. omega arith) (λ c. omega arith) loop-again
+    (tie.spec Inv-loop μ-loop loop-holds (λ c. omega arith) (λ c. omega arith) (λ c. omega arith) (λ c. is-usize (in-row (c .before .before) (omega arith)))
+    (λ c. in-row (c .before .before) (omega arith)) settle-kind-requires add-count (λ c. omega arith) (λ c. omega arith) loop-again
     (λ c. c .before .loop .inv .1 .size) same-length-2 returns)

@@ -1,12 +1,12 @@
--- `settling::gather` meets its contract: every kind is visited, and what is settled so is every lookup; the counts are right from before on. Assumes nothing.
+-- `settling::settle_all` meets its contract: every kind is visited, so that every entry is settled; the counts are right from before on. Assumes nothing.
 use mathlib.Core.Path.{refl, _∙_}
 use native.Mathlib.Omega.{arith}
 use Rattle.counting.proofs.CountLaws.{counted, counts-of}
 use Rattle.relation.proofs.Zeros.{blank-zeros}
 use Rattle.settling.proofs.Editing.{all-settled}
-use Rattle.settling.proofs.GatherLaws.{all-visited}
-use Rattle.settling.proofs.gather.Statement.{statement}
-use Rattle.settling.proofs.gather.Tie as tie
+use Rattle.settling.proofs.WholeLaws.{all-visited}
+use Rattle.settling.proofs.settle_all.Statement.{statement}
+use Rattle.settling.proofs.settle_all.Tie as tie
 use borrow.Author.Needs.{needs}
 
 -- the rule kinds are put into their rows
@@ -38,7 +38,7 @@ settle-requires c κs =
       (s .0, record { arranged = s .1; rule-kinds = put c .rule-rows .ensures }),
       (
         record { most = s .0 .marks; low = omega arith; high = omega arith },
-        all-visited 128 _ _ _ (a .lookups .now) refl (s .0 .kinds),
+        all-visited 128 _ _ _ (a .entries .now) refl (s .0 .kinds),
         counted _ _ (s .0 .entries-size) (s .0 .kinds) (counts .count-disputes .ensures),
       ),
     )
@@ -48,13 +48,12 @@ returns c =
     let e = c .before .before .before .before in
     let s = start (first (put (e .before))) .pre in
     let done = e .settle .ensures in
-    let size = done .0 .size ∙ s .0 .entries-size in
     record {
-      size = size;
       looked = all-settled _ _ _ _ _ _ (s .0 .entries-size) (done .0) .0;
-      counted = counts-of _ _ size (s .2) (done .1);
+      counted = done .0 .counted;
+      recounted = counts-of _ _ (done .0 .size ∙ s .0 .entries-size) (s .2) (done .1);
     }
 
-pub gather-spec : {M : Type 1} → statement M
-gather-spec =
+pub settle-all-spec : {M : Type 1} → statement M
+settle-all-spec =
     tie.close (tie.spec count-disputes-requires rule-rows-requires settle-requires (λ c. search needs) (λ c. search needs) returns)

@@ -1,4 +1,4 @@
--- Working out a whole book's lookups.
+-- Settling a whole book.
 --     all-visited      where every kind is visited, `settle` asks nothing of the entries
 -- Assumes nothing.
 use mathlib.Core.Path.{_≡_}
