@@ -12,7 +12,7 @@ use mathlib.Core.Path.{_≡_, refl, sym, _∙_, ap, subst}
 use mathlib.Core.Logic.{_≢_, _⊎_, inl, inr, ⊎-elim, by-cases}
 use mathlib.Core.Bool.{Bool, true, false}
 use mathlib.Core.List.{List}
-use Prim.Native.Nat.{ℕ, _+_, _-_, _*_, _<_, _≤_}
+use Prim.Native.Nat.{ℕ, _+_, _*_, _<_, _≤_}
 use native.Mathlib.Nat.{eq-or-lt-of-le, div-lt-iff-lt-mul}
 use native.Mathlib.Decide.{ℕ-discrete}
 use native.Mathlib.Numerals.{add-one}
@@ -25,7 +25,7 @@ use Rattle.inheritance.specs.Above.{one-if, count}
 use Rattle.inheritance.proofs.AboveLaws.{count-same, count-some, count-changed}
 use Rattle.tables.specs.Tables.{is-dispute, disputesAt, disputesOf}
 use Rattle.tables.proofs.BookLaws.{zeros-at}
-use Rattle.tables.proofs.DisputeLaws.{one-if-few, at-most, length-disputes, disputes-at, disputes-ext}
+use Rattle.tables.proofs.DisputeLaws.{at-most, length-disputes, disputes-at, disputes-ext}
 use Rattle.tables.proofs.TableLaws.{place-split}
 use Rattle.counting.specs.Counting.{countedIn, countedAnew, Counting, Counted}
 

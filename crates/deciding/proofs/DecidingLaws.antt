@@ -8,7 +8,7 @@
 --     deciding-left          `deciding` is what the kinds left decide
 -- Assumes nothing.
 use mathlib.Core.Path.{_≡_, refl, sym, _∙_, ap, ap₂, subst}
-use mathlib.Core.Logic.{_≢_, _⊎_, inl, inr, ⊎-elim, _↔_, by-cases}
+use mathlib.Core.Logic.{_≢_, inl, inr, ⊎-elim, _↔_, by-cases}
 use mathlib.Core.Bool.{Bool, true, false, _&&_, not, true≢false, and-eq-true-iff, or-true, not-eq-not}
 use mathlib.Core.List.{List, [], _∷_}
 use Prim.Native.Nat.{ℕ, _+_, _*_, _<_, _≤_}

@@ -7,7 +7,7 @@
 --     pair-none, pair-one, pair-two             the two lowest, as code finds them: there is none, there is one, there are two
 -- Assumes nothing.
 use mathlib.Core.Path.{_≡_, refl, sym, _∙_, ap, ap₂, subst}
-use mathlib.Core.Logic.{_≢_, _⊎_, inr, ⊎-elim, _↔_, by-cases}
+use mathlib.Core.Logic.{inr, ⊎-elim, _↔_, by-cases}
 use mathlib.Core.Bool.{Bool, true, false, _&&_, _||_, not, true≢false, and-eq-true-iff, not-eq-not, or-assoc, or-false, and-false, and-true}
 use mathlib.Core.List.{List, [], _∷_, _++_}
 use Prim.Native.Nat.{ℕ, zero, suc, _+_, _*_, _/_, _%_, _<_, _≤_, zero-le}

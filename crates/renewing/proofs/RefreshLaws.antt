@@ -3,7 +3,7 @@
 --     refresh-done                      every entry is settled
 --     refresh-refused, refresh-unsound  refusals 1 and 5
 -- Assumes nothing.
-use mathlib.Core.Path.{_≡_, refl, sym, _∙_, ap}
+use mathlib.Core.Path.{_≡_, refl, sym, _∙_}
 use mathlib.Core.Bool.{Bool, true, false}
 use mathlib.Core.List.{List}
 use Prim.Native.Nat.{ℕ, _*_, _≤_}
@@ -14,7 +14,7 @@ use Rattle.settling.specs.Settled.{AllSettled}
 use Rattle.soundness.specs.Examined.{LinksExamined}
 use Rattle.soundness.proofs.Soundness.{examined-entries}
 use Rattle.tables.specs.Reply.{refused, given}
-use Rattle.tables.specs.Tables.{Tables, lent, shaped, links-right, differing, Sized}
+use Rattle.tables.specs.Tables.{Tables, lent, shaped, links-right, Sized}
 use Rattle.tables.specs.Calls.{leaves, check, refresh}
 use Rattle.tables.proofs.ShapeLaws.{sized-facts, shape-sized}
 

@@ -10,7 +10,7 @@
 --     Sound, sound-means, means-sound    what `sound` tests, as facts
 --     over-by-steps, sound-by-steps      the tables are sound exactly if they are well linked, every entry follows by one step and every count is right
 -- Assumes nothing.
-use mathlib.Core.Path.{_≡_, refl, sym, _∙_, ap, ap₂}
+use mathlib.Core.Path.{_≡_, refl, sym, _∙_, ap}
 use mathlib.Core.Bool.{Bool, true, false, _&&_, not, and-eq-true-iff}
 use mathlib.Core.List.{List}
 use Prim.Native.Nat.{ℕ, _+_, _*_, _<_, _≤_}

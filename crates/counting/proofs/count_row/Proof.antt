@@ -1,6 +1,6 @@
 -- `counting::count_row` meets its contract. The loop's invariant: the entries of the marks below j are counted in. Assumes nothing.
-use mathlib.Core.Path.{_≡_, sym, _∙_, subst}
-use Prim.Native.Nat.{ℕ, _-_, _≤_}
+use mathlib.Core.Path.{sym, _∙_, subst}
+use Prim.Native.Nat.{_-_, _≤_}
 use native.Mathlib.Omega.{arith}
 use Rattle.counting.specs.Counting.{Counting}
 use Rattle.counting.proofs.CountLaws.{counting-none, counting-store, counting-few, counting-row}
