@@ -23,7 +23,7 @@ start c = c .before .before .before .before .before .before
 count-disputes-requires : tie.Need-count-disputes-requires
 count-disputes-requires c κs =
     let s = c .before .before .before .before .before .pre in
-    (s .0 .kinds, s .0 .entries-size, s .3)
+    omega (arith, s .0 .kinds, s .0 .entries-size, s .3)
 
 rule-rows-requires : tie.Need-rule-rows-requires
 rule-rows-requires c κs =
