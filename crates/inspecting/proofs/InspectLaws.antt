@@ -5,7 +5,7 @@
 --     searching-none, searching-more                     where the loop begins, and what a turn does
 --     searching-found, searching-all                     the first number that fails is found; none is
 --     part-length                                        the length of a part of a list of equal numbers
---     places-fit, lookups-fit                            how many places there are; the lookups have as many as the entries
+--     places-fit                                         how many places there are
 --     inspect-refused, inspect-links, inspect-entries    what inspect answers, where the tables do not have their lengths, where the links have a
 --                                                        fault, and where they have none
 -- Assumes nothing.
@@ -19,20 +19,19 @@ use native.Mathlib.Decide.{decLt}
 use native.Mathlib.Omega.{arith}
 use lib.Dec.{eqb}
 use lib.ListN.{length, getD, take, replicate, length-replicate}
-use lib.Seq.{length-take-le}
 use Rattle.inheritance.specs.Above.{above}
 use Rattle.inheritance.proofs.AboveLaws.{above-same}
 use Rattle.relation.specs.Bit.{bit}
 use Rattle.closing.specs.Closed.{Closed}
 use Rattle.loading.specs.Loaded.{Loaded}
-use Rattle.soundness.proofs.Soundness.{rows-links}
+use Rattle.soundness.proofs.Soundness.{rows-links, part-replicate}
 use Rattle.tables.specs.Reply.{refused, given, Fault}
 use Rattle.tables.specs.Tables.{Tables, shaped, upOf, entriesOf, disputesOf, all-below, byte-right, bytes-right, kind-free, entry-right, count-right}
-use Rattle.tables.specs.Tables.{Sized, well-linked, links-right}
+use Rattle.tables.specs.Tables.{well-linked, links-right}
 use Rattle.tables.specs.Calls.{check, lowest, firstFault, faultOf, inspect}
 use Rattle.tables.proofs.CallLaws.{Lowest, lowest-fails}
 use Rattle.tables.proofs.DisputeLaws.{disputes-at}
-use Rattle.tables.proofs.ShapeLaws.{sized-facts, shape-sized}
+use Rattle.tables.proofs.ShapeLaws.{sized-facts}
 use Rattle.tables.proofs.SoundLaws.{entries-true}
 use Rattle.tables.proofs.TableLaws.{below-suc, below-true, below-same}
 use Rattle.inspecting.specs.Faults.{off-own-row, linkFault, same-at, entryFault}
@@ -127,28 +126,16 @@ unfolding above
 free-tests n links rows closed kinds loaded closes c h =
     ap not (closes .bits c c h (omega arith) ∙ above-same n (bit rows) (upOf n links) (rows-links n links rows kinds loaded) c c h h)
 
--- size is not written as a number, so that `replicate size x` stays as it is
 pub part-length : (k size x : ℕ) → k ≤ size → length (take k (replicate size x)) ≡ k
-part-length k size x h = length-take-le k (replicate size x) (omega (arith, length-replicate size x))
+part-length k size x h = ap length (part-replicate k size x h) ∙ length-replicate k x
 
-module _ (n m : ℕ) (t : Tables) (is : shaped n m t ≡ true) where
-  pub places-fit : (length (t .links) ≤ 16384) × (length (t .entries) ≤ 8192) × (length (t .disputes) ≤ 64)
-  places-fit =
-      let s = sized-facts 1 1 n m _ _ _ _ _ is in (
-        omega (arith, s .links-length, mul-le-mul (s .kinds .1) (s .kinds .1)),
-        omega (arith, s .entries-length, mul-le-mul (s .kinds .1) (s .marks .1)),
-        omega (arith, s .disputes-length, s .marks .1),
-      )
-
-  pub lookups-fit : {lookups : List ℕ} {marks : ℕ} → length lookups ≡ length (t .entries) → marks ≡ length (t .disputes)
-      → Sized n m (t .rules) lookups × (1 ≤ m) × (marks ≡ m)
-  lookups-fit same same-marks =
-      let s = sized-facts 1 1 n m _ _ _ _ _ is in
-      let z = shape-sized n m t s in (
-        record { kinds = z .kinds; marks = z .marks; rules-size = z .rules-size; entries-size = same ∙ z .entries-size },
-        s .marks .0,
-        omega (arith, same-marks, s .disputes-length),
-      )
+pub places-fit : (n m : ℕ) (t : Tables) → shaped n m t ≡ true → (length (t .links) ≤ 16384) × (length (t .entries) ≤ 8192) × (length (t .disputes) ≤ 64)
+places-fit n m t is =
+    let s = sized-facts 1 1 n m _ _ _ _ _ is in (
+      omega (arith, s .links-length, mul-le-mul (s .kinds .1) (s .kinds .1)),
+      omega (arith, s .entries-length, mul-le-mul (s .kinds .1) (s .marks .1)),
+      omega (arith, s .disputes-length, s .marks .1),
+    )
 
 module _ (n m : ℕ) (t : Tables) where
   pub inspect-refused : shaped n m t ≡ false → refused 1 ≡ inspect n m t .reply

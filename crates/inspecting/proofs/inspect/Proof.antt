@@ -8,10 +8,10 @@ use borrow.Author.Tests.{not-true, not-false}
 use denote.Ref.{now}
 use lib.ListN.{length}
 use Rattle.tables.specs.Tables.{Tables, lent, shaped}
-use Rattle.tables.proofs.ShapeLaws.{sized-facts}
 use Rattle.relation.proofs.Zeros.{blank-zeros}
+use Rattle.settling.proofs.WholeLaws.{settle-ready}
 use Rattle.soundness.proofs.Soundness.{examined-entries}
-use Rattle.inspecting.proofs.InspectLaws.{part-length, places-fit, lookups-fit, inspect-refused, inspect-links, inspect-entries}
+use Rattle.inspecting.proofs.InspectLaws.{part-length, places-fit, inspect-refused, inspect-links, inspect-entries}
 use Rattle.inspecting.proofs.inspect.Statement.{statement}
 use Rattle.inspecting.proofs.inspect.Tie as tie
 
@@ -38,10 +38,7 @@ abbrev linked : tie.After-settle-all → tie.Else2
 linked c = c .before .before .before .before .before .before .before .before
 
 links-fit : (c : tie.Else1) → (start (c .before) .args .n ≤ 128) × (length (book (c .before) .links) ≡ start (c .before) .args .n * start (c .before) .args .n)
-links-fit c =
-    let a = start (c .before) .args in
-    let s = sized-facts 1 1 (a .n) (a .m) _ _ _ _ _ (is-shaped c) in
-    (s .kinds .1, s .links-length)
+links-fit c = let r = settle-ready _ _ (book (c .before)) (is-shaped c) (book (c .before) .entries) refl refl in (r .0 .kinds, r .1)
 
 -- past the second test the links have no fault
 is-linked : (c : tie.Else2) → c .before .examine-links .result ≡ true
@@ -66,8 +63,8 @@ settle-all-requires : tie.Need-settle-all-requires
 settle-all-requires c κs =
     let e = c .before .before .before .before .before .before .before in
     let p = past (e .before) in
-    let r = lookups-fit _ _ (book (p .before)) (is-shaped p) (part-length _ 8192 0 (fits p .1)) (part-length _ 64 0 (fits p .2)) in
-    (r .0, e .before .examine-links .ensures .arranged (is-linked e), r .1, r .2)
+    let r = settle-ready _ _ (book (p .before)) (is-shaped p) _ (part-length _ 8192 0 (fits p .1)) (part-length _ 64 0 (fits p .2)) in
+    (r .0, e .before .examine-links .ensures .arranged (is-linked e), r .2, r .3)
 
 entry-fault-requires : tie.Need-entry-fault-requires
 entry-fault-requires c κs =

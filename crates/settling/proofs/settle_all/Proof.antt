@@ -38,7 +38,7 @@ settle-requires c κs =
       (s .0, record { arranged = s .1; rule-kinds = put c .rule-rows .ensures }),
       (
         record { most = s .0 .marks; low = omega arith; high = omega arith },
-        all-visited 128 _ _ _ (a .entries .now) refl (s .0 .kinds),
+        all-visited 128 _ _ _ _ (a .entries .now) refl (omega arith) (s .0 .kinds),
         counted _ _ (s .0 .entries-size) (s .0 .kinds) (counts .count-disputes .ensures),
       ),
     )

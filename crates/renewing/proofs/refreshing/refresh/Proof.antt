@@ -6,7 +6,8 @@ use borrow.Author.Tests.{not-true, not-false}
 use denote.Ref.{now}
 use Rattle.tables.specs.Tables.{Tables, lent, shaped}
 use Rattle.relation.proofs.Zeros.{blank-zeros}
-use Rattle.renewing.proofs.RefreshLaws.{refresh-ready, refresh-done, refresh-refused, refresh-unsound}
+use Rattle.settling.proofs.WholeLaws.{settle-ready}
+use Rattle.renewing.proofs.RefreshLaws.{refresh-done, refresh-refused, refresh-unsound}
 use Rattle.renewing.proofs.refreshing.refresh.Statement.{statement}
 use Rattle.renewing.proofs.refreshing.refresh.Tie as tie
 
@@ -26,7 +27,7 @@ returns c = refresh-refused _ _ (book (c .before)) (sym (c .before .shape .ensur
 examine-links-requires : tie.Need-examine-links-requires
 examine-links-requires c κs =
     let e = c .before .before .before in
-    let r = refresh-ready _ _ (book (e .before)) (is-shaped e) in
+    let r = settle-ready _ _ (book (e .before)) (is-shaped e) (book (e .before) .entries) refl refl in
     (r .0 .kinds, r .1, blank-zeros 256 refl, refl, blank-zeros 256 refl)
 
 abbrev past : tie.After-examine-links → tie.Else1
@@ -48,7 +49,7 @@ settle-all-requires : tie.Need-settle-all-requires
 settle-all-requires c κs =
     let e = linked c in
     let p = past (e .before) in
-    let r = refresh-ready _ _ (book (p .before)) (is-shaped p) in
+    let r = settle-ready _ _ (book (p .before)) (is-shaped p) _ refl refl in
     (r .0, e .before .examine-links .ensures .arranged (is-linked e), r .2, r .3)
 
 returns-3 : tie.Need-returns-3
