@@ -8,6 +8,9 @@
    lookup was another. Callers, the numbers of the tally and the damage to counts are drawn, so that they meet all the
    rest and do not multiply it. A few named books have their answers, entries and counts written out as well, and larger
    tables show the edges of the sizes and the highest counts.
+   Lists of edits are drawn for each book, with every refusal by which they stop, and tried on it in all these states;
+   some are as long as a list may be, or longer. They are made in one call, by the single calls one after the other, and
+   as this file reads those; on larger tables in the first two ways.
    It fails where a call differs, and where an answer of a call or a sort of damage came up too seldom. */
 
 #include <stdio.h>
@@ -54,7 +57,18 @@ static uint32_t tallied(void) {
 
 /* ---- the calls */
 
-enum call { OPEN, ADD_RULE, TAKE_RULE, ADD_LINK, TAKE_LINK, REFRESH, INSPECT, PARTIES, CALLS };
+/* All but the list; the edits have the numbers that its records give them. */
+enum call {
+    OPEN,
+    ADD_RULE = HOUSE_ADD_RULE,
+    TAKE_RULE = HOUSE_TAKE_RULE,
+    ADD_LINK = HOUSE_ADD_LINK,
+    TAKE_LINK = HOUSE_TAKE_LINK,
+    REFRESH,
+    INSPECT,
+    PARTIES,
+    CALLS
+};
 
 static int is_edit(enum call call) { return call >= ADD_RULE && call <= TAKE_LINK; }
 
@@ -83,7 +97,7 @@ struct arguments {
 /* None of the first is wrong by itself, on any book; all of the others are. */
 static const struct arguments good = {0, 0, 0, 20}, bad = {65535, 65535, 65535, 0};
 
-/* A size, and tables with their lengths. */
+/* A size, and tables with their lengths; and the book, if they are those of one. */
 struct lent {
     uint16_t n, m;
     uint8_t *links;
@@ -91,11 +105,13 @@ struct lent {
     uint32_t *tally;
     uint16_t *disputes;
     size_t lengths[TABLES];
+    struct book *book;
 };
 
-#define LENT(t)                                                                                              \
-    (t)->n, (t)->m, (t)->links, (t)->lengths[0], (t)->rules, (t)->lengths[1], (t)->entries, (t)->lengths[2], \
-        (t)->tally, (t)->lengths[3], (t)->disputes, (t)->lengths[4]
+#define LENT_TABLES(t)                                                                                                \
+    (t)->links, (t)->lengths[0], (t)->rules, (t)->lengths[1], (t)->entries, (t)->lengths[2], (t)->tally,              \
+        (t)->lengths[3], (t)->disputes, (t)->lengths[4]
+#define LENT(t) (t)->n, (t)->m, LENT_TABLES(t)
 
 /* What the library answers. */
 static uint32_t make(enum call call, const struct lent *t, struct arguments a) {
@@ -115,7 +131,7 @@ static uint32_t make(enum call call, const struct lent *t, struct arguments a) {
 static struct lent lend(struct book *b) {
     size_t n = b->n, m = b->m;
     return (struct lent){b->n,     b->m,        b->links, b->rules, b->entries,
-                         b->tally, b->disputes, {n * n, n * m, n * m, HOUSE_CALLERS, m}};
+                         b->tally, b->disputes, {n * n, n * m, n * m, HOUSE_CALLERS, m}, b};
 }
 
 static uint32_t made(enum call call, struct book *b) {
@@ -357,6 +373,130 @@ static void try_call(enum call call, const struct book *b, struct arguments a, u
     if (is_edit(call)) hold_other_marks(call, b, &theirs);
 }
 
+/* ---- lists of edits */
+
+/* Room for a list whose length, cut to 16 bits, would be that of a short one. */
+enum { RECORDS = 65536 + 4 };
+
+/* The list that is tried, and the copy that is lent; each with one record before it and one after. */
+static size_t list_len;
+static struct house_edit list[1 + RECORDS + 1], lent_list[1 + RECORDS + 1];
+
+/* How often a list was refused by each number, and how often one stopped by each, with 0 for a whole list. */
+static unsigned long lists_refused[20], lists_stopped[20];
+
+/* Gives the list to the library, counts its answer, and holds that no record was written. An empty one may be NULL. */
+static uint64_t make_list(const struct lent *t, uint16_t caller) {
+    const struct house_edit *edits = list_len == 0 && caller % 2 == 0 ? NULL : lent_list + 1;
+    size_t bytes = (1 + list_len + 1) * sizeof *list;
+    memcpy(lent_list, list, bytes);
+    uint64_t answer = house_make_list(t->n, t->m, edits, list_len, LENT_TABLES(t), caller);
+    int refused = house_list_refused(answer);
+    unsigned long number = refused ? answer % 65536 : house_list_stop(answer);
+    calls_made++;
+    if (number < MANY(lists_refused)) (refused ? lists_refused : lists_stopped)[number]++;
+    if (memcmp(lent_list, list, bytes) != 0) fail_at("a record of a list", t->n, t->m);
+    return answer;
+}
+
+static uint64_t packed(uint64_t changed, unsigned stop, uint64_t accepted) {
+    return changed << 32 | (uint64_t)(stop == 0 ? 0 : 256 + stop) << 16 | accepted;
+}
+
+/* A way to carry out a single call: make, which is the library's, or the reading above. */
+typedef uint32_t way(enum call call, const struct lent *t, struct arguments a);
+
+/* The tables have the right lengths, and an edit gets a sound book. */
+static uint32_t read_plainly(enum call call, const struct lent *t, struct arguments a) {
+    return expect(call, t->book, a, call == INSPECT ? inspected(t->book) : HOUSE_SOUND);
+}
+
+static uint32_t make_record(way *carry_out, const struct lent *t, struct house_edit e, uint16_t caller) {
+    if (!is_edit(e.what)) return HOUSE_REFUSED_NO_EDIT;
+    return carry_out(e.what, t, (struct arguments){caller, e.kind, e.other, e.handling});
+}
+
+/* What the list should answer and leave, by its edits one after the other. */
+static uint64_t one_by_one(way *carry_out, const struct lent *t, uint16_t caller) {
+    uint64_t changed = 0;
+    uint32_t fault = carry_out(INSPECT, t, good);
+    if (house_is_refusal(fault) || list_len > HOUSE_MOST_EDITS) return HOUSE_REFUSED_BOOK;
+    if (caller >= HOUSE_CALLERS) return HOUSE_REFUSED_CALLER;
+    if (fault != HOUSE_SOUND) return HOUSE_REFUSED_UNSOUND;
+    for (size_t i = 0; i < list_len; i++) {
+        uint32_t answer = make_record(carry_out, t, list[1 + i], caller);
+        if (house_is_refusal(answer)) return packed(changed, house_refusal(answer), i);
+        changed += answer;
+    }
+    return packed(changed, 0, list_len);
+}
+
+/* The answer and all five tables are the same in the three ways. */
+static void try_list(const struct book *b, uint16_t caller) {
+    struct book ours = *b, singly = *b, theirs = *b;
+    struct lent read = lend(&ours), single = lend(&singly), t = lend(&theirs);
+    uint64_t given = make_list(&t, caller);
+    if (one_by_one(read_plainly, &read, caller) != given || memcmp(&ours, &theirs, sizeof ours) != 0)
+        fail("a list, as it is read,", b);
+    if (one_by_one(make, &single, caller) != given || memcmp(&singly, &theirs, sizeof singly) != 0)
+        fail("a list, by single calls,", b);
+}
+
+/* Whether the list is refused for its book, whoever enters it. */
+static int lists_refused_for_book(const struct lent *t) {
+    return make_list(t, good.caller) == HOUSE_REFUSED_BOOK && make_list(t, bad.caller) == HOUSE_REFUSED_BOOK;
+}
+
+/* A number that the book has, or at times one that it has not. */
+static uint16_t draw_number(unsigned below) {
+    return (uint16_t)(chance() % 16 == 0 ? between(below, 65535) : chance() % below);
+}
+
+/* From a drawn place of a kind's row on, the next one that holds something, if there is one. */
+static uint16_t draw_held(const struct lent *t, struct house_edit e) {
+    int rule = e.what == HOUSE_TAKE_RULE;
+    unsigned width = rule ? t->m : t->n, at = e.other;
+    if (e.kind >= t->n || at >= width) return e.other;
+    for (unsigned i = 0; i < width; i++, at = (at + 1) % width)
+        if (rule ? t->rules[e.kind * width + at] : t->links[e.kind * width + at]) break;
+    return (uint16_t)at;
+}
+
+/* Any record: one of the four edits, or at times none, which may have the low byte of one. Half of the rules and links
+   to take are there, if the kind has any. */
+static struct house_edit draw_record(const struct lent *t) {
+    static const uint16_t none[] = {0, 5, 65535};
+    struct house_edit e = {(uint16_t)(1 + chance() % 4), draw_number(t->n), 0, between(0, 65535)};
+    e.other = draw_number(e.what <= HOUSE_TAKE_RULE ? t->m : t->n);
+    if ((e.what == HOUSE_TAKE_RULE || e.what == HOUSE_TAKE_LINK) && chance() % 2 == 0) e.other = draw_held(t, e);
+    if (chance() % 16 == 0) e.what = none[chance() % MANY(none)];
+    else if (chance() % 32 == 0) e.what = (uint16_t)(e.what + 256 * between(1, 255));
+    return e;
+}
+
+/* Draws a list for a sound book, of which it uses up a copy. A record that is refused when its turn comes is mostly
+   drawn again, and kept one time in so many. The records before the list and after it are drawn too. */
+static void draw_list(const struct lent *copy, size_t length, unsigned long so_many) {
+    list_len = length;
+    list[0] = draw_record(copy);
+    for (struct house_edit *e = list + 1; e <= list + 1 + length; e++) {
+        do *e = draw_record(copy);
+        while (house_is_refusal(make_record(make, copy, *e, 0)) && chance() % so_many != 0);
+    }
+}
+
+/* Some short lists of a sound book. The last of them stays, for other calls on the book and on it damaged. */
+static void try_lists(const struct book *b) {
+    for (unsigned i = 0; i < 3; i++) {
+        struct book spent = *b;
+        struct lent copy = lend(&spent);
+        draw_list(&copy, between(0, 40), 30);
+        try_list(b, between(0, HOUSE_CALLERS - 1));
+    }
+}
+
+/* ---- every call on a book */
+
 /* How many numbers are tried for an argument, and which: the kinds or marks of the book, the first that it has not, and
    the largest number. */
 static unsigned many(char what, const struct book *b) {
@@ -380,6 +520,8 @@ static void try_calls(const struct book *b) {
                         try_call(call, b, (struct arguments){between(HOUSE_CALLERS, 65535), x, y, z}, fault);
                 }
     }
+    try_list(b, between(0, HOUSE_CALLERS - 1));
+    try_list(b, between(HOUSE_CALLERS, 65535));
 }
 
 /* Every call with a wrong length of one table, whatever its arguments. */
@@ -392,6 +534,9 @@ static void try_length(const struct book *b, unsigned table, size_t length) {
         uint32_t given = counted(call, &t, i % 2 == 0 ? good : bad);
         if (given != HOUSE_REFUSED_BOOK || memcmp(&lent, b, sizeof lent) != 0) fail(calls[call].name, b);
     }
+    struct lent t = lend(&lent);
+    t.lengths[table] = length;
+    if (!lists_refused_for_book(&t) || memcmp(&lent, b, sizeof lent) != 0) fail("a list", b);
 }
 
 /* Lengths that are one off; a tally of no number or of one, as it once was; disputes of no mark, of bytes, of as many
@@ -412,9 +557,10 @@ static void try_lengths(const struct book *b) {
 }
 
 /* How often a call that may refuse with 5 got past that: its other answers and the refusals that are checked later, of
-   which 13 is none. */
+   which 13 is none; and lists that were not refused. */
 static unsigned long past_five(void) {
     unsigned long sum = 0;
+    for (size_t i = 0; i < MANY(lists_stopped); i++) sum += lists_stopped[i];
     for (enum call call = ADD_RULE; call <= PARTIES; call++)
         if (calls[call].arguments[0] != 0) {
             sum += answers[call][0];
@@ -514,6 +660,7 @@ static void try_any_entries(struct book b) {
 static void try_book(const struct book *b) {
     struct book damaged = *b;
     books++;
+    try_lists(b);
     try_calls(b);
     try_lengths(b);
     try_wrong_counts(b);
@@ -712,6 +859,45 @@ static void try_counted_session(void) {
     }
 }
 
+/* The session in lists, with the counts of both marks after each. Each refusal of an edit stops a list, and of the
+   records from there on nothing is made. */
+static void try_counted_lists(void) {
+    static const struct {
+        size_t many;
+        struct house_edit edits[4];
+        uint32_t changed;
+        unsigned stop, accepted;
+        uint16_t counts[2];
+    } lists[] = {
+        {0, {{ADD_RULE, 0, 0, 20}}, 0, 0, 0, {0, 0}},
+        {3, {{ADD_LINK, 2, 0, 0}, {ADD_LINK, 2, 1, 0}, {ADD_LINK, 3, 2, 0}}, 0, 0, 3, {0, 0}},
+        {3, {{ADD_RULE, 0, 1, 20}, {ADD_RULE, 1, 1, 20}, {ADD_RULE, 3, 1, 20}}, 7, 0, 3, {0, 1}},
+        {3, {{TAKE_RULE, 3, 1, 0}, {TAKE_RULE, 3, 1, 20}, {ADD_LINK, 3, 0, 0}}, 1, 6, 1, {0, 2}},
+        {4, {{ADD_LINK, 3, 0, 9}, {TAKE_LINK, 3, 0, 9}, {5, 3, 0, 0}, {ADD_LINK, 3, 0, 0}}, 2, 19, 2, {0, 2}},
+        {3, {{ADD_RULE, 0, 0, 10}, {ADD_RULE, 1, 0, 20}, {ADD_RULE, 1, 0, 10}}, 6, 0, 3, {2, 2}},
+        {2, {{ADD_LINK, 2, 3, 0}, {TAKE_LINK, 2, 1, 0}}, 0, 9, 0, {2, 2}},
+        {3, {{TAKE_LINK, 2, 1, 0}, {TAKE_LINK, 2, 1, 0}, {ADD_LINK, 2, 1, 0}}, 4, 8, 1, {0, 0}},
+        {3, {{ADD_LINK, 2, 1, 0}, {ADD_LINK, 2, 1, 0}, {TAKE_LINK, 2, 1, 0}}, 4, 7, 1, {2, 2}},
+        {3, {{TAKE_RULE, 1, 0, 0}, {ADD_RULE, 1, 0, 0}, {TAKE_RULE, 1, 1, 0}}, 3, 4, 1, {0, 2}},
+        {2, {{ADD_RULE, 3, 2, 0}, {TAKE_RULE, 1, 1, 0}}, 0, 3, 0, {0, 2}},
+        {2, {{ADD_LINK, 3, 4, 0}, {TAKE_RULE, 1, 1, 0}}, 0, 2, 0, {0, 2}},
+    };
+    struct book b = named_book(4, 2, NULL, 0, NULL, 0);
+    struct lent t = lend(&b);
+    uint32_t made = 0;
+    for (size_t i = 0; i < MANY(lists); i++) {
+        list_len = lists[i].many;
+        memcpy(list + 1, lists[i].edits, sizeof lists[i].edits);
+        try_list(&b, 15);
+        made += lists[i].accepted;
+        uint64_t given = make_list(&t, 15);
+        if (house_list_changed(given) != lists[i].changed || house_list_stop(given) != lists[i].stop ||
+            house_list_accepted(given) != lists[i].accepted || b.tally[15] != made)
+            fail("a counted session in lists", &b);
+        hold_counts("a counted session in lists", &b, lists[i].counts);
+    }
+}
+
 /* ---- sizes at and past the edges */
 
 /* Tables for more kinds and marks than a book may have. */
@@ -725,10 +911,10 @@ static struct room {
 /* Of a room its leading part, as long as the size asks. */
 static struct lent fitting(struct room *r, size_t n, size_t m) {
     return (struct lent){(uint16_t)n, (uint16_t)m, r->links, r->rules, r->entries,
-                         r->tally,    r->disputes, {n * n, n * m, n * m, HOUSE_CALLERS, m}};
+                         r->tally,    r->disputes, {n * n, n * m, n * m, HOUSE_CALLERS, m}, NULL};
 }
 
-/* Every call refuses a size outside the range, though the tables fit it, and writes nothing. */
+/* Every call, and a list after each, refuses a size outside the range, though the tables fit it, and writes nothing. */
 static void try_sizes_outside(void) {
     static const struct pair sizes[] = {{0, 0}, {0, 2}, {4, 0}, {129, 2}, {4, 65}, {129, 65}};
     for (unsigned i = 0; i < MANY(sizes) * CALLS * 2; i++) {
@@ -738,7 +924,7 @@ static void try_sizes_outside(void) {
         memset(&room, i % 2 == 0 ? 0 : 165, sizeof room);
         memcpy(&other_room, &room, sizeof room);
         uint32_t given = counted(call, &t, i % 2 == 0 ? good : bad);
-        if (given != HOUSE_REFUSED_BOOK || memcmp(&room, &other_room, sizeof room) != 0)
+        if (given != HOUSE_REFUSED_BOOK || !lists_refused_for_book(&t) || memcmp(&room, &other_room, sizeof room) != 0)
             fail_at(calls[call].name, t.n, t.m);
     }
 }
@@ -782,12 +968,13 @@ static void try_parties_of_the_largest(void) {
 
 /* NULL with 0 elements is refused, for all tables and for disputes alone. */
 static void try_null(void) {
-    struct lent none = {4, 2, NULL, NULL, NULL, NULL, NULL, {0, 0, 0, 0, 0}}, rest = fitting(&room, 4, 2);
+    struct lent none = {4, 2, NULL, NULL, NULL, NULL, NULL, {0, 0, 0, 0, 0}, NULL}, rest = fitting(&room, 4, 2);
     rest.disputes = NULL;
     rest.lengths[4] = 0;
     for (enum call call = 0; call < CALLS; call++)
         if (counted(call, &none, good) != HOUSE_REFUSED_BOOK || counted(call, &rest, good) != HOUSE_REFUSED_BOOK)
             fail_at(calls[call].name, 4, 2);
+    if (!lists_refused_for_book(&none) || !lists_refused_for_book(&rest)) fail_at("a list", 4, 2);
 }
 
 /* ---- the largest book with as many disputes as there can be: all kinds from 2 on are under kinds 0 and 1, which both
@@ -846,6 +1033,79 @@ static void try_highest_counts(void) {
     hold_room("a link", counted(TAKE_LINK, &t, (struct arguments){0, LARGEST - 1, 0, 0}), MOST_MARKS);
 }
 
+/* ---- long lists, and lists of large books */
+
+/* Lists as long as they may be, and longer. Of one that is too long nothing else is looked at. */
+static void try_long_lists(void) {
+    static const size_t lengths[] = {HOUSE_MOST_EDITS, HOUSE_MOST_EDITS + 1, HOUSE_MOST_EDITS - 1, RECORDS};
+    struct book b;
+    for (unsigned i = 0; i < 4 * MANY(lengths); i++) {
+        while (!make_book(&b, (uint16_t)(3 + i % 3), (uint16_t)(1 + i % 2), chance() & chance(), chance())) {}
+        struct book copy = b;
+        struct lent t = lend(&copy);
+        draw_list(&t, lengths[i % MANY(lengths)], i < MANY(lengths) ? 1000000 : 5000);
+        try_list(&b, between(0, HOUSE_CALLERS - 1));
+        try_list(&b, between(HOUSE_CALLERS, 65535));
+        b.disputes[0]++;
+        try_list(&b, between(0, HOUSE_CALLERS + 1));
+    }
+}
+
+/* A book of about two parents a kind, whose numbers do not tell what is above what, and rules at one place in three. */
+static void fill_room(uint16_t n, uint16_t m) {
+    struct lent t = fitting(&room, n, m);
+    memset(&room, 165, sizeof room);
+    emptied(t);
+    for (unsigned i = 0; i < 4u * n; i++) {
+        unsigned child = (unsigned)chance() % n, parent = (unsigned)chance() % n;
+        if (child * 37 % n < parent * 37 % n) room.links[child * n + parent] = 1;
+    }
+    for (unsigned i = 0; i < (unsigned)n * m; i++) room.rules[i] = chance() % 3 == 0 ? between(1, 65535) : 0;
+    if (house_is_refusal(counted(REFRESH, &t, good))) fail_at("refresh", n, m);
+}
+
+/* A list of a large book by the call and by the single calls. The book is sound afterwards, as inspect has it. */
+static void try_large_list(uint16_t n, uint16_t m, size_t length) {
+    struct lent t = fitting(&room, n, m), singly = fitting(&other_room, n, m);
+    uint16_t caller = between(0, HOUSE_CALLERS - 1);
+    fill_room(n, m);
+    memcpy(&other_room, &room, sizeof room);
+    draw_list(&singly, length, 1000);
+    memcpy(&other_room, &room, sizeof room);
+    uint64_t given = make_list(&t, caller);
+    if (one_by_one(make, &singly, caller) != given || memcmp(&room, &other_room, sizeof room) != 0 ||
+        counted(INSPECT, &t, good) != HOUSE_SOUND)
+        fail_at("a list", n, m);
+}
+
+static void try_large_lists(void) {
+    static const struct pair sizes[] = {{24, 16}, {63, 64}, {64, 32}, {65, 33}, {100, 1}, {127, 63}, {128, 64}};
+    for (size_t i = 0; i < 3 * MANY(sizes); i++)
+        try_large_list(sizes[i % MANY(sizes)].one, sizes[i % MANY(sizes)].other, 400);
+    try_large_list(LARGEST, MOST_MARKS, HOUSE_MOST_EDITS);
+}
+
+/* The highest sum: the last kind has a rule for every mark and all others are under it, all but one by way of that one,
+   whose link is taken and added again. The tally stays at its highest number. */
+static void try_highest_sum(void) {
+    enum { LAST = LARGEST - 1, MIDDLE = LAST - 1 };
+    struct lent t = fitting(&room, LARGEST, MOST_MARKS);
+    memset(&room, 165, sizeof room);
+    emptied(t);
+    for (unsigned c = 0; c < LAST; c++) room.links[c * LARGEST + (c == MIDDLE ? LAST : MIDDLE)] = 1;
+    for (unsigned mark = 0; mark < MOST_MARKS; mark++) room.rules[LAST * MOST_MARKS + mark] = 20;
+    for (size_t i = 0; i < t.lengths[2]; i++) room.entries[i] = LAST + 1;
+    room.tally[0] = UINT32_MAX - 1;
+    memcpy(&other_room, &room, sizeof room);
+    other_room.tally[0] = UINT32_MAX;
+    list_len = HOUSE_MOST_EDITS;
+    for (size_t i = 0; i < 1 + list_len + 1; i++)
+        list[i] = (struct house_edit){i % 2 == 0 ? HOUSE_ADD_LINK : HOUSE_TAKE_LINK, MIDDLE, LAST, 0};
+    if (make_list(&t, 0) != packed(HOUSE_MOST_EDITS * LAST * MOST_MARKS, 0, HOUSE_MOST_EDITS) ||
+        memcmp(&room, &other_room, sizeof room) != 0)
+        fail_at("the highest sum", LARGEST, MOST_MARKS);
+}
+
 /* ---- how often */
 
 static int rare(unsigned long times, const char *what, unsigned number) {
@@ -853,9 +1113,10 @@ static int rare(unsigned long times, const char *what, unsigned number) {
     return times < 1000;
 }
 
-/* Every refusal of every call came up often, with 0 for none, and so did every fault, every sort of wrong counts and
-   parties that tell the two lowest kinds left from other pairs. */
+/* Every refusal of every call came up often, with 0 for none, and so did every one by which a list stops, every fault,
+   every sort of wrong counts and parties that tell the two lowest kinds left from other pairs. */
 static void hold_often(void) {
+    static const unsigned refused[] = {1, 13, 5}, stopped[] = {0, 19, 2, 3, 4, 6, 7, 8, 9};
     int any = rare(old_books, "other entries by the old lookup", 0);
     any |= rare(counts_moved, "an edit that changes a count", 0);
     any |= rare(counts_kept, "an edit that changes entries and no count", 0);
@@ -866,6 +1127,8 @@ static void hold_often(void) {
             unsigned refusal = calls[call].refusals[i];
             any |= rare(answers[call][refusal], calls[call].name, refusal);
         }
+    for (size_t i = 0; i < MANY(refused); i++) any |= rare(lists_refused[refused[i]], "a refused list", refused[i]);
+    for (size_t i = 0; i < MANY(stopped); i++) any |= rare(lists_stopped[stopped[i]], "a list that stops", stopped[i]);
     for (unsigned i = HOUSE_LINK_BYTE / 65536; i < MANY(faults); i++) any |= rare(faults[i], "the fault, by 65536", i);
     for (unsigned i = 0; i < SORTS; i++) any |= rare(wrong_counts[i], "wrong counts of sort", i);
     if (any) exit(EXIT_FAILURE);
@@ -889,11 +1152,15 @@ int main(void) {
     try_stored_diamond();
     try_parties();
     try_counted_session();
+    try_counted_lists();
     try_sizes_outside();
     try_sizes_at_the_edges();
     try_parties_of_the_largest();
     try_null();
     try_highest_counts();
+    try_long_lists();
+    try_large_lists();
+    try_highest_sum();
     hold_often();
     printf("%lu books, %lu of them all those of up to 3 kinds and 2 marks, %lu not sound as stored before; %lu calls\n",
            books, all, old_books, calls_made);

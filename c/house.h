@@ -1,5 +1,5 @@
-/* The calls of a house, for programs written in C or C++: open a book, edit its links and rules, see whose rules are in
-   dispute, inspect a book and refresh it. The find is in lane.h.
+/* The calls of a house, for programs written in C or C++: open a book, edit its links and rules, by single edits or by
+   a list of them, see whose rules are in dispute, inspect a book and refresh it. The find is in lane.h.
 
    docs/SCOPE.md says call by call what the product does, and the library is proved to do it. "rt staticlib house"
    writes target/staticlib/libhouse.a, which links into x86-64 programs, beside liblane.a where a program asks the find
@@ -20,8 +20,8 @@
      disputes  uint16_t  m             place mark holds how many kinds have a dispute entry for the mark
 
    CALLERS. A caller is whoever enters an edit, such as one of two suppliers. The house gives its callers numbers from
-   0 to 15, and each edit takes the number of the one who entered it, so that the tally has how many edits of each were
-   accepted. Every caller may edit all of the book. A house that does not tell them apart gives 0.
+   0 to 15, and each edit, or list of edits, takes the number of the one who entered it, so that the tally has how many
+   edits of each were accepted. Every caller may edit all of the book. A house that does not tell them apart gives 0.
 
    THE LOOKUP. Kind P is above kind C if a chain of one or more links leads from C up to P. The lookup at a kind and a
    mark starts from the kinds with their own rule for the mark that are seen: the kind itself if it has one, otherwise
@@ -38,16 +38,18 @@
    It writes those tables that are not const, and nothing else of the program's. Numbers are the machine's own, which on
    x86-64 has the lowest byte first. A call takes each length at its word: that many elements must be there, at an
    address that is right for their type, and no two tables may overlap. A length that is not the book's is refused, so
-   NULL with 0 is refused too.
+   NULL with 0 is refused too. A list of edits is lent like a table, before the tables, and overlaps none of them.
 
-   TAKING TURNS. While a call runs, nothing else writes any of the book's tables, and nothing else reads those that it
-   writes. So calls on one book take turns, unless all of them only read: either a lock is held around each call, finds
-   included, or a copy is edited and swapped in once the call is back, and lanes go on with the old one meanwhile. The
-   library keeps nothing between calls, so calls on different books may run at the same time.
+   TAKING TURNS. While a call runs, nothing else writes any of the book's tables, or the list lent to it, and nothing
+   else reads those that it writes. So calls on one book take turns, unless all of them only read: either a lock is held
+   around each call, finds included, or a copy is edited and swapped in once the call is back, and lanes go on with the
+   old one meanwhile. A list is one call, and takes one turn. The library keeps nothing between calls, so calls on
+   different books may run at the same time.
 
    MEMORY. A call takes stack and nothing else. Leave it 24 KB, and inspect 40 KB: c/stack.c measures 37 KB for inspect,
-   which works the lookups out beside the entries, and 24 KB for parties, 22 KB for an edit and 21 KB for refresh, on 128
-   kinds in one chain of links, which calls go along by recursion. Open takes what memset takes.
+   which works the lookups out beside the entries, and 24 KB for parties, 22 KB for an edit or a list of any length, and
+   21 KB for refresh, on 128 kinds in one chain of links, which calls go along by recursion. Open takes what memset
+   takes.
 
    FOR LANES the same memory goes to lane_find as bytes, whose order lane.h asks for is that of x86-64:
 
@@ -70,12 +72,13 @@ extern "C" {
 
 /* ---- refusals */
 
-/* A refused call writes nothing. It answers one of these, 65536 + the refusal's number; numbers that are missing here
-   are of the find and of the text program. Below, each call has its refusals by number in the order of its checks: it
-   gives the first that applies, and no other. */
+/* A refused call writes nothing. It answers one of these, 65536 + the refusal's number; of the numbers that are missing
+   here, 10 is of the find, 12 of the text program, and the others of nothing yet. Below, each call has its refusals by
+   number in the order of its checks: it gives the first that applies, and no other. */
 enum {
     HOUSE_REFUSED = 65536,
-    HOUSE_REFUSED_BOOK = 65536 + 1,        /* n or m is outside its range, or a table has not exactly its length */
+    HOUSE_REFUSED_BOOK = 65536 + 1,        /* n or m is outside its range, or a table has not exactly its length, or a
+                                              list has too many records */
     HOUSE_REFUSED_KIND = 65536 + 2,        /* the book has no such kind: kind, child or parent is not below n */
     HOUSE_REFUSED_MARK = 65536 + 3,        /* the book has no such mark: mark is not below m */
     HOUSE_REFUSED_HANDLING = 65536 + 4,    /* handling is 0 */
@@ -86,15 +89,16 @@ enum {
     HOUSE_REFUSED_NOT_LINKED = 65536 + 8,  /* there is no such link */
     HOUSE_REFUSED_CYCLE = 65536 + 9,       /* the parent is the child, or the child is above the parent */
     HOUSE_REFUSED_NO_DISPUTE = 65536 + 11, /* the entry is no dispute */
-    HOUSE_REFUSED_CALLER = 65536 + 13      /* there is no such caller: caller is above 15 */
+    HOUSE_REFUSED_CALLER = 65536 + 13,     /* there is no such caller: caller is above 15 */
+    HOUSE_REFUSED_NO_EDIT = 65536 + 19     /* a record of a list, which stops there, is no edit: what is not 1 to 4 */
 };
 
-/* Whether an answer, of any call, is a refusal. */
+/* Whether an answer, of any call but a list, is a refusal. */
 static inline bool house_is_refusal(uint32_t answer) {
     return answer / 65536 == 1;
 }
 
-/* The number of a refusal, 1 to 13. Other answers have none. */
+/* The number of a refusal, 1 to 19. Other answers have none. */
 static inline unsigned house_refusal(uint32_t answer) {
     return answer % 65536;
 }
@@ -135,6 +139,55 @@ uint32_t house_add_link(uint16_t n, uint16_t m, uint8_t *links, size_t links_len
 uint32_t house_take_link(uint16_t n, uint16_t m, uint8_t *links, size_t links_len, const uint16_t *rules,
                          size_t rules_len, uint16_t *entries, size_t entries_len, uint32_t *tally, size_t tally_len,
                          uint16_t *disputes, size_t disputes_len, uint16_t caller, uint16_t child, uint16_t parent);
+
+/* ---- a list of edits */
+
+/* An edit as a record of a list, of 8 bytes. It may hold any numbers. */
+struct house_edit {
+    uint16_t what;     /* one of the four below */
+    uint16_t kind;     /* the kind of the rule, or the child of the link */
+    uint16_t other;    /* the mark of the rule, or the parent of the link */
+    uint16_t handling; /* that of a rule to add; not read for the other three */
+};
+
+enum { HOUSE_ADD_RULE = 1, HOUSE_TAKE_RULE = 2, HOUSE_ADD_LINK = 3, HOUSE_TAKE_LINK = 4 };
+
+/* The most records of a list. */
+#define HOUSE_MOST_EDITS 4096
+
+/* Makes the edits of a list in order, all of one caller, each as its own call would, up to the first that is refused.
+   Later ones are not tried, and the earlier stand: stopping there is no refused call. The book is tested once, before
+   the first edit, so a long list takes much less time than its edits one by one. An empty list, for which NULL will do,
+   changes nothing.
+   Answers 4294967296 * the sum of what the accepted edits answered + how many they are, and where the list stopped,
+   65536 * (256 + the refusal's number) is added. It stops by 19 at a record whose what is not 1 to 4, and at others by
+   2, 3, 4, 6, 7, 8 or 9, as the call of the edit has them.
+   Refusals of the list as a whole: 1, 13, 5. */
+uint64_t house_make_list(uint16_t n, uint16_t m, const struct house_edit *edits, size_t edits_len, uint8_t *links,
+                         size_t links_len, uint16_t *rules, size_t rules_len, uint16_t *entries, size_t entries_len,
+                         uint32_t *tally, size_t tally_len, uint16_t *disputes, size_t disputes_len, uint16_t caller);
+
+/* Whether the list was refused as a whole. Then no edit was made, and the answer is one of the refusals above. */
+static inline bool house_list_refused(uint64_t answer) {
+    return answer / 65536 == 1;
+}
+
+/* Of a list that was not refused: how many edits were accepted. If it stopped, this is the place in the list of the
+   record that was refused. */
+static inline size_t house_list_accepted(uint64_t answer) {
+    return (size_t)(answer % 65536);
+}
+
+/* The sum of what they answered. An entry that changed more than once is in it more than once. */
+static inline uint32_t house_list_changed(uint64_t answer) {
+    return (uint32_t)(answer / 4294967296);
+}
+
+/* The number of the refusal by which it stopped, to which HOUSE_REFUSED is added for one of the refusals above; 0 if it
+   did not stop. */
+static inline unsigned house_list_stop(uint64_t answer) {
+    return (unsigned)(answer / 65536 % 256);
+}
 
 /* ---- refresh */
 

@@ -1,5 +1,5 @@
-/* A house in small: it opens a book, edits it for two suppliers while a lane asks, sees a dispute, and mends a damaged
-   copy.
+/* A house in small: it opens a book, edits it for two suppliers while a lane asks, sees a dispute, mends a damaged copy
+   and enters a list of edits.
 
      cc -o house_example c/house_example.c target/staticlib/libhouse.a target/staticlib/liblane.a */
 
@@ -18,9 +18,10 @@ struct book {
     uint16_t disputes[M];
 };
 
-/* What every call starts with: the size, and the five tables with their numbers of elements. */
-#define LENT(b) \
-    N, M, (b)->links, N * N, (b)->rules, N * M, (b)->entries, N * M, (b)->tally, HOUSE_CALLERS, (b)->disputes, M
+/* What the calls are lent: the size, and the five tables with their numbers of elements. */
+#define TABLES(b) \
+    (b)->links, N * N, (b)->rules, N * M, (b)->entries, N * M, (b)->tally, HOUSE_CALLERS, (b)->disputes, M
+#define LENT(b) N, M, TABLES(b)
 
 /* The suppliers whose edits this house enters: the callers that it tells apart. */
 enum { ORCHARD = 0, IMPORTER = 1 };
@@ -49,6 +50,8 @@ static const char *refusal_name(uint32_t answer) {
         return "there is no dispute";
     case HOUSE_REFUSED_CALLER:
         return "there is no such caller";
+    case HOUSE_REFUSED_NO_EDIT:
+        return "there is no such edit";
     default:
         return "an answer of no call";
     }
@@ -157,6 +160,34 @@ static void mend(struct book copy) {
     ask(&copy, 3, 0);
 }
 
+/* Enters a list of the importer's. Where it stops at a record that is refused, it goes on after that. */
+static void enter(struct book *book, const struct house_edit *edits, size_t many) {
+    for (size_t next = 0; next < many; next++) {
+        uint64_t answer = house_make_list(N, M, edits + next, many - next, TABLES(book), IMPORTER);
+        if (house_list_refused(answer)) {
+            tell("list", (uint32_t)answer);
+            return;
+        }
+        next += house_list_accepted(answer);
+        printf("%-24s done, accepted: %u, entries that changed: %u\n", "list", (unsigned)house_list_accepted(answer),
+               (unsigned)house_list_changed(answer));
+        if (house_list_stop(answer) != 0) {
+            tell("  the next edit", HOUSE_REFUSED + house_list_stop(answer));
+        }
+    }
+}
+
+/* The importer's spring list, in which the third edit takes a rule that is not there. */
+static void enter_spring_list(struct book *book) {
+    static const struct house_edit spring[] = {
+        {HOUSE_TAKE_RULE, 2, 0, 0}, {HOUSE_ADD_RULE, 2, 1, 30}, {HOUSE_TAKE_RULE, 0, 1, 0},
+        {HOUSE_ADD_LINK, 3, 2, 0},  {HOUSE_TAKE_LINK, 3, 1, 0},
+    };
+    enter(book, spring, sizeof spring / sizeof *spring);
+    ask(book, 3, 0);
+    ask(book, 3, 1);
+}
+
 int main(void) {
     struct book book;
     uint32_t answer = house_open(LENT(&book));
@@ -174,6 +205,8 @@ int main(void) {
     show_disputes(&book, 0);
     ask(&book, 3, 0);
     ask(&book, 3, 1);
+    puts("a list of five edits for it");
+    enter_spring_list(&book);
     printf("edits accepted: %u of the orchard, %u of the importer\n", (unsigned)book.tally[ORCHARD],
            (unsigned)book.tally[IMPORTER]);
     return 0;

@@ -16,10 +16,18 @@ static uint8_t links[N * N];
 static uint16_t rules[N * M], entries[N * M], disputes[M];
 static uint32_t tally[HOUSE_CALLERS];
 
-#define BOOK N, M, links, N * N, rules, N * M, entries, N * M, tally, HOUSE_CALLERS, disputes, M
+/* The longest list: the four edits below, in the same order, again and again. */
+static const struct house_edit four[] = {{HOUSE_ADD_RULE, N - 1, 0, 20},
+                                         {HOUSE_TAKE_RULE, N - 1, 0, 0},
+                                         {HOUSE_TAKE_LINK, N - 2, N - 1, 0},
+                                         {HOUSE_ADD_LINK, N - 2, N - 1, 0}};
+static struct house_edit edits[HOUSE_MOST_EDITS];
+
+#define TABLES links, N * N, rules, N * M, entries, N * M, tally, HOUSE_CALLERS, disputes, M
+#define BOOK N, M, TABLES
 #define EDIT BOOK, HOUSE_CALLERS - 1
 
-static uint32_t answer;
+static uint64_t answer;
 
 static void nothing(void) {
     answer = 0;
@@ -35,6 +43,9 @@ static void take_link(void) {
 }
 static void add_link(void) {
     answer = house_add_link(EDIT, N - 2, N - 1);
+}
+static void make_list(void) {
+    answer = house_make_list(N, M, edits, HOUSE_MOST_EDITS, TABLES, HOUSE_CALLERS - 1);
 }
 static void parties(void) {
     answer = house_parties(BOOK, 0, 0);
@@ -53,13 +64,14 @@ static void open_book(void) {
 static const struct {
     const char *name;
     void (*make)(void);
-    uint32_t answer;
+    uint64_t answer;
     size_t left;
 } calls[] = {
     {"add rule", add_rule, N, LEFT},
     {"take rule", take_rule, N, LEFT},
     {"take link", take_link, 0, LEFT},
     {"add link", add_link, 0, LEFT},
+    {"list", make_list, 4294967296 * (HOUSE_MOST_EDITS / 4 * 2 * N) + HOUSE_MOST_EDITS, LEFT},
     {"parties", parties, HOUSE_REFUSED_NO_DISPUTE, LEFT},
     {"refresh", refresh, 0, LEFT},
     {"inspect", inspect, HOUSE_SOUND, LEFT_TO_INSPECT},
@@ -90,11 +102,15 @@ int main(void) {
     for (unsigned c = 0; c + 1 < N; c++) {
         links[c * N + c + 1] = 1;
     }
+    for (size_t i = 0; i < HOUSE_MOST_EDITS; i++) {
+        edits[i] = four[i % 4];
+    }
     for (size_t i = 0; i < sizeof calls / sizeof *calls; i++) {
         size_t taken = used(calls[i].make) - unrelated;
         printf("%s takes %zu bytes of stack\n", calls[i].name, taken);
         if (answer != calls[i].answer || taken > calls[i].left) {
-            fprintf(stderr, "%s answered %u, or took more than %zu bytes\n", calls[i].name, (unsigned)answer, calls[i].left);
+            fprintf(stderr, "%s answered %llu, or took more than %zu bytes\n", calls[i].name,
+                    (unsigned long long)answer, calls[i].left);
             return EXIT_FAILURE;
         }
     }

@@ -1,6 +1,6 @@
-/* Times the four edits and refresh of the static library against the twin in C and against the base, the library of another commit, in one run: on books of three
-   sizes where parents differ at few, some and many places. All do the same calls on books of their own, batch by batch in turns; their answers and
-   tables are compared as they go. */
+/* Times the four edits, refresh and a list of edits of the static library against the twin in C and against the base, the library of another commit, in one run: on
+   books of three sizes where parents differ at few, some and many places. All do the same calls on books of their own, batch by batch in turns; their answers and
+   tables are compared as they go. The list is timed against its edits by single calls too. */
 #define _POSIX_C_SOURCE 199309L /* for clock_gettime */
 #include "base.h"
 #include "house.h"
@@ -11,6 +11,7 @@
 #include <time.h>
 
 enum { PLACES = 48, ROUNDS = 60, REPEATS = 9, LIBRARY = 0, TWIN = 1, BASE = 2, SIDES = 3, CALLS = 5 };
+enum { LIST = 400, LIST_ROUNDS = 12 };
 
 static uint64_t state = 88172645463325252ull;
 static uint32_t random_below(uint32_t k) {
@@ -78,15 +79,17 @@ struct edit {
     uint16_t caller, x, y, value;
 };
 
-#define FOUR(b) (b)->n, (b)->m, (b)->links, (b)->links_len, (b)->rules, (b)->rules_len, (b)->entries, (b)->entries_len, (b)->tally, (b)->tally_len
-#define TABLES(b) FOUR(b), (b)->disputes, (b)->disputes_len
+#define SIZE(b) (b)->n, (b)->m
+#define FOUR(b) (b)->links, (b)->links_len, (b)->rules, (b)->rules_len, (b)->entries, (b)->entries_len, (b)->tally, (b)->tally_len
+#define FIVE(b) FOUR(b), (b)->disputes, (b)->disputes_len
+#define TABLES(b) SIZE(b), FIVE(b)
 
 /* What the base is lent, and whether it counts disputes: it does not if it is from before that. */
 #ifdef BASE_DISPUTES
 #define BASE_TABLES(b) TABLES(b)
 enum { BASE_COUNTS = 1 };
 #else
-#define BASE_TABLES(b) FOUR(b)
+#define BASE_TABLES(b) SIZE(b), FOUR(b)
 enum { BASE_COUNTS = 0 };
 #endif
 
@@ -163,13 +166,12 @@ static double share(const struct book *b) {
     return 100.0 * (double)differ / (double)b->entries_len;
 }
 
-/* A new book for all three. The share of its places where parents differ. */
-static double renew(const struct book *books, const struct shape *s) {
-    fill(&books[LIBRARY], s);
-    if (house_refresh(TABLES(&books[LIBRARY])) >= HOUSE_REFUSED) abort();
-    copy(&books[LIBRARY], &books[TWIN]);
-    copy(&books[LIBRARY], &books[BASE]);
-    return share(&books[LIBRARY]);
+/* The same new book for all. The share of its places where parents differ. */
+static double renew(const struct book *books, int many, const struct shape *s) {
+    fill(&books[0], s);
+    if (house_refresh(TABLES(&books[0])) >= HOUSE_REFUSED) abort();
+    for (int i = 1; i < many; i++) copy(&books[0], &books[i]);
+    return share(&books[0]);
 }
 
 /* Rules at any places and links from any kind to a lower one, so that no link closes a cycle, of any callers. */
@@ -191,7 +193,7 @@ static int run(const struct shape *s) {
     memset(times, 0, sizeof times);
     for (int r = 0; r < REPEATS; r++)
         for (int round = 0; round < ROUNDS; round++) {
-            differ += renew(books, s) / (REPEATS * ROUNDS);
+            differ += renew(books, SIDES, s) / (REPEATS * ROUNDS);
             choose(s->n, s->m, rules, links);
             for (int k = 0; k < CALLS; k++) {
                 for (int i = 0; i < SIDES; i++) {
@@ -212,11 +214,138 @@ static int run(const struct shape *s) {
     return 0;
 }
 
+/* ---- a list of edits */
+
+/* The ways to make a list: in one call, by single calls, whose answers are put together, by the twin, and by the base if it has lists. */
+typedef uint64_t list_call(const struct book *b, uint16_t caller, const struct house_edit *edits);
+static uint64_t house_list(const struct book *b, uint16_t caller, const struct house_edit *edits) {
+    return house_make_list(SIZE(b), edits, LIST, FIVE(b), caller);
+}
+static uint64_t house_singly(const struct book *b, uint16_t caller, const struct house_edit *edits) {
+    uint64_t changed = 0;
+    for (int i = 0; i < LIST; i++) {
+        struct house_edit e = edits[i];
+        uint32_t answer = calls[LIBRARY][e.what - HOUSE_ADD_RULE](b, (struct edit){caller, e.kind, e.other, e.handling});
+        if (house_is_refusal(answer)) return answer;
+        changed += answer;
+    }
+    return changed << 32 | LIST;
+}
+static uint64_t twin_list(const struct book *b, uint16_t caller, const struct house_edit *edits) { return twin_make_list(b, caller, edits, LIST); }
+#ifdef BASE_LISTS
+static uint64_t base_list(const struct book *b, uint16_t caller, const struct house_edit *edits) {
+    return base_make_list(SIZE(b), (const struct base_edit *)edits, LIST, FIVE(b), caller);
+}
+#endif
+
+static const struct {
+    const char *name;
+    list_call *make;
+} ways[] = {
+    {"list", house_list},
+    {"single calls", house_singly},
+    {"C", twin_list},
+#ifdef BASE_LISTS
+    {"base", base_list},
+#endif
+};
+enum { WAYS = sizeof ways / sizeof *ways };
+
+/* The numbers below `many` in an order that is drawn. */
+static void shuffle(uint16_t *order, uint32_t many) {
+    for (uint32_t i = 0; i < many; i++) {
+        uint32_t at = random_below(i + 1);
+        order[i] = order[at];
+        order[at] = (uint16_t)i;
+    }
+}
+
+/* Two edits at one place, of which the first can be made on the book and the second undoes it. A pair is a link to a kind of lower number; they are numbered
+   child by child. */
+static void rule_and_back(const struct book *b, size_t place, struct house_edit *two) {
+    uint16_t own = b->rules[place], kind = (uint16_t)(place / b->m), mark = (uint16_t)(place % b->m);
+    two[own != 0] = (struct house_edit){HOUSE_ADD_RULE, kind, mark, own ? own : (uint16_t)(1 + random_below(65535))};
+    two[own == 0] = (struct house_edit){HOUSE_TAKE_RULE, kind, mark, 0};
+}
+static void link_and_back(const struct book *b, size_t pair, struct house_edit *two) {
+    size_t child = 1;
+    while (pair >= child) pair -= child++;
+    int there = b->links[child * b->n + pair];
+    two[there] = (struct house_edit){HOUSE_ADD_LINK, (uint16_t)child, (uint16_t)pair, 0};
+    two[!there] = (struct house_edit){HOUSE_TAKE_LINK, (uint16_t)child, (uint16_t)pair, 0};
+}
+
+/* A list of as many rules as links, all at different places, each changed and later changed back. Links lead to kinds of lower number, so that all are accepted in
+   whatever order, and leave the book as it was. */
+static void draw_list(const struct book *b, struct house_edit *edits) {
+    static uint16_t places[128 * 64], pairs[128 * 127 / 2], slots[LIST];
+    shuffle(places, (uint32_t)b->rules_len);
+    shuffle(pairs, (uint32_t)b->n * (b->n - 1u) / 2);
+    shuffle(slots, LIST);
+    for (int i = 0; i < LIST / 2; i++) {
+        struct house_edit two[2];
+        uint16_t one = slots[2 * i], other = slots[2 * i + 1];
+        if (i % 2) rule_and_back(b, places[i], two);
+        else link_and_back(b, pairs[i], two);
+        edits[one] = two[one > other];
+        edits[other] = two[one < other];
+    }
+}
+
+/* Makes the list in every way, and adds up the times. Whether all was accepted, and the answers and books are the same. */
+static int make_list(const struct book *books, uint16_t caller, const struct house_edit *edits, int first, double *times) {
+    uint64_t answers[WAYS];
+    int alike = 1;
+    for (int i = 0; i < WAYS; i++) {
+        int way = (first + i) % WAYS;
+        double start = now();
+        answers[way] = ways[way].make(&books[way], caller, edits);
+        times[way] += now() - start;
+    }
+    for (int i = 0; i < WAYS; i++) alike &= answers[i] == answers[0] && house_list_stop(answers[i]) == 0 && same(&books[0], &books[i]);
+    return alike && house_list_accepted(answers[0]) == LIST;
+}
+
+/* On a new book the list is made once before it is timed, and again, which finds the book as it was: in the end the tally alone has grown. */
+static int list_round(const struct book *books, const struct book *found, int first, double *times) {
+    double untimed[WAYS] = {0};
+    struct house_edit edits[LIST];
+    uint16_t caller = (uint16_t)random_below(CALLERS);
+    copy(&books[0], found);
+    draw_list(found, edits);
+    found->tally[caller] += 2 * LIST;
+    return make_list(books, caller, edits, first, untimed) && make_list(books, caller, edits, first, times) && same(&books[0], found);
+}
+
+static int run_lists(const struct shape *s) {
+    struct book books[WAYS], found = new_book(s->n, s->m, s->m);
+    double times[WAYS][REPEATS] = {{0}}, differ = 0;
+    for (int i = 0; i < WAYS; i++) books[i] = new_book(s->n, s->m, s->m);
+    for (int r = 0; r < REPEATS; r++) {
+        double sums[WAYS] = {0};
+        for (int round = 0; round < LIST_ROUNDS; round++) {
+            differ += renew(books, WAYS, s) / (REPEATS * LIST_ROUNDS);
+            if (!list_round(books, &found, round, sums)) return printf("%u x %u: a list differs\n", s->n, s->m), 1;
+        }
+        for (int i = 0; i < WAYS; i++) times[i][r] = sums[i] / LIST_ROUNDS;
+    }
+    double x = median(times[0], REPEATS);
+    printf("%3u x %2u  %-4s (%2.0f %%)  %s of %d  %7.1f us", s->n, s->m, s->much, differ, ways[0].name, LIST, x);
+    for (int i = 1; i < WAYS; i++) {
+        double y = median(times[i], REPEATS);
+        printf("  %s %7.1f us  ratio %.2f", ways[i].name, y, x / y);
+    }
+    printf("\n");
+    for (int i = 0; i < WAYS; i++) free_book(&books[i]);
+    free_book(&found);
+    return 0;
+}
+
 int main(void) {
     static const struct shape shapes[] = {{24, 16, "few", 2, 12},  {24, 16, "some", 3, 4},   {24, 16, "many", 14, 3},
                                           {64, 32, "few", 2, 20},  {64, 32, "some", 3, 8},   {64, 32, "many", 8, 6},
                                           {128, 64, "few", 2, 26}, {128, 64, "some", 3, 13}, {128, 64, "many", 6, 8}};
     for (size_t i = 0; i < sizeof shapes / sizeof *shapes; i++)
-        if (run(&shapes[i])) return EXIT_FAILURE;
+        if (run(&shapes[i]) || run_lists(&shapes[i])) return EXIT_FAILURE;
     return EXIT_SUCCESS;
 }

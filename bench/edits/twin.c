@@ -1,6 +1,6 @@
-/* The four edits and refresh by hand, as quick as we could make them in plain C99: links read eight bytes at a time, the kinds put in order by one
-   climb, entries worked out a row of marks at a time, where parents differ by the rule kinds left, and after an edit only for the kinds that it reaches.
-   It counts on a machine that stores the lowest byte of a number first. */
+/* The four edits, a list of them and refresh by hand, as quick as we could make them in plain C99: links read eight bytes at a time, the kinds put in
+   order by one climb, entries worked out a row of marks at a time, where parents differ by the rule kinds left, and after an edit only for the kinds
+   that it reaches. It counts on a machine that stores the lowest byte of a number first. */
 #include "twin.h"
 #include <string.h>
 
@@ -269,47 +269,72 @@ static uint32_t set_link(const struct book *b, struct view *v, size_t caller, si
     return count;
 }
 
-uint32_t twin_add_rule(const struct book *b, uint16_t caller, uint16_t kind, uint16_t mark, uint16_t handling) {
+/* The refusals of an edit for its numbers alone, which come before soundness, or 0. */
+static inline uint32_t wrong_numbers(const struct book *b, struct house_edit e) {
+    int rule = e.what == HOUSE_ADD_RULE || e.what == HOUSE_TAKE_RULE;
+    if (e.kind >= b->n || (!rule && e.other >= b->n)) return REFUSED + 2;
+    if (rule && e.other >= b->m) return REFUSED + 3;
+    return e.what == HOUSE_ADD_RULE && e.handling == 0 ? REFUSED + 4 : 0;
+}
+
+/* An edit of a sound book, whose view stays that of the book: what it changed, or its last refusals. */
+static inline uint32_t edit(const struct book *b, struct view *v, uint16_t caller, struct house_edit e) {
+    switch (e.what) {
+    case HOUSE_ADD_RULE: return set_rule(b, v, caller, e.kind, e.other, e.handling);
+    case HOUSE_TAKE_RULE:
+        if (b->rules[(size_t)e.kind * b->m + e.other] == 0) return REFUSED + 6;
+        return set_rule(b, v, caller, e.kind, e.other, 0);
+    case HOUSE_ADD_LINK:
+        if (has(v->parents[e.kind], e.other)) return REFUSED + 7;
+        if (has(v->reach[e.other], v->place[e.kind])) return REFUSED + 9;
+        return set_link(b, v, caller, e.kind, e.other, 1);
+    default:
+        if (!has(v->parents[e.kind], e.other)) return REFUSED + 8;
+        return set_link(b, v, caller, e.kind, e.other, 0);
+    }
+}
+
+static inline uint32_t single(const struct book *b, uint16_t caller, struct house_edit e) {
     struct view v;
     if (!shaped(b)) return REFUSED + 1;
     if (caller >= CALLERS) return REFUSED + 13;
-    if (kind >= b->n) return REFUSED + 2;
-    if (mark >= b->m) return REFUSED + 3;
-    if (handling == 0) return REFUSED + 4;
+    uint32_t wrong = wrong_numbers(b, e);
+    if (wrong) return wrong;
     if (!sound(b, &v)) return REFUSED + 5;
-    return set_rule(b, &v, caller, kind, mark, handling);
+    return edit(b, &v, caller, e);
+}
+
+uint32_t twin_add_rule(const struct book *b, uint16_t caller, uint16_t kind, uint16_t mark, uint16_t handling) {
+    return single(b, caller, (struct house_edit){HOUSE_ADD_RULE, kind, mark, handling});
 }
 
 uint32_t twin_take_rule(const struct book *b, uint16_t caller, uint16_t kind, uint16_t mark) {
-    struct view v;
-    if (!shaped(b)) return REFUSED + 1;
-    if (caller >= CALLERS) return REFUSED + 13;
-    if (kind >= b->n) return REFUSED + 2;
-    if (mark >= b->m) return REFUSED + 3;
-    if (!sound(b, &v)) return REFUSED + 5;
-    if (b->rules[(size_t)kind * b->m + mark] == 0) return REFUSED + 6;
-    return set_rule(b, &v, caller, kind, mark, 0);
+    return single(b, caller, (struct house_edit){HOUSE_TAKE_RULE, kind, mark, 0});
 }
 
 uint32_t twin_add_link(const struct book *b, uint16_t caller, uint16_t child, uint16_t parent) {
-    struct view v;
-    if (!shaped(b)) return REFUSED + 1;
-    if (caller >= CALLERS) return REFUSED + 13;
-    if (child >= b->n || parent >= b->n) return REFUSED + 2;
-    if (!sound(b, &v)) return REFUSED + 5;
-    if (has(v.parents[child], parent)) return REFUSED + 7;
-    if (has(v.reach[parent], v.place[child])) return REFUSED + 9;
-    return set_link(b, &v, caller, child, parent, 1);
+    return single(b, caller, (struct house_edit){HOUSE_ADD_LINK, child, parent, 0});
 }
 
 uint32_t twin_take_link(const struct book *b, uint16_t caller, uint16_t child, uint16_t parent) {
+    return single(b, caller, (struct house_edit){HOUSE_TAKE_LINK, child, parent, 0});
+}
+
+/* Soundness once; each edit then finds the view as the one before left it. */
+uint64_t twin_make_list(const struct book *b, uint16_t caller, const struct house_edit *edits, size_t many) {
     struct view v;
-    if (!shaped(b)) return REFUSED + 1;
+    uint64_t changed = 0;
+    if (!shaped(b) || many > HOUSE_MOST_EDITS) return REFUSED + 1;
     if (caller >= CALLERS) return REFUSED + 13;
-    if (child >= b->n || parent >= b->n) return REFUSED + 2;
     if (!sound(b, &v)) return REFUSED + 5;
-    if (!has(v.parents[child], parent)) return REFUSED + 8;
-    return set_link(b, &v, caller, child, parent, 0);
+    for (size_t i = 0; i < many; i++) {
+        struct house_edit e = edits[i];
+        uint32_t answer = e.what < HOUSE_ADD_RULE || e.what > HOUSE_TAKE_LINK ? REFUSED + 19 : wrong_numbers(b, e);
+        if (answer == 0) answer = edit(b, &v, caller, e);
+        if (answer >= REFUSED) return changed << 32 | (uint64_t)(256 + answer - REFUSED) << 16 | i;
+        changed += answer;
+    }
+    return changed << 32 | many;
 }
 
 /* The kinds from the last place to the first, so that parents come first. */

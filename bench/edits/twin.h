@@ -1,6 +1,7 @@
-/* The four edits and refresh by hand in C: the same checks and the same answers as the proved calls, on the same tables. */
+/* The four edits, a list of them and refresh by hand in C: the same checks and the same answers as the proved calls, on the same tables. */
 #ifndef TWIN_H
 #define TWIN_H
+#include "house.h" /* for the records of a list */
 #include <stddef.h>
 #include <stdint.h>
 
@@ -23,4 +24,7 @@ uint32_t twin_take_rule(const struct book *b, uint16_t caller, uint16_t kind, ui
 uint32_t twin_add_link(const struct book *b, uint16_t caller, uint16_t child, uint16_t parent);
 uint32_t twin_take_link(const struct book *b, uint16_t caller, uint16_t child, uint16_t parent);
 uint32_t twin_refresh(const struct book *b);
+
+/* The answer of house_make_list. */
+uint64_t twin_make_list(const struct book *b, uint16_t caller, const struct house_edit *edits, size_t many);
 #endif

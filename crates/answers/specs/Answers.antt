@@ -9,7 +9,7 @@ use mathlib.Core.List.{List, [], _∷_}
 use Prim.Native.Nat.{ℕ}
 use Rattle.patterns.specs.Bytes.{bytes}
 use Rattle.patterns.specs.Pattern.{filled}
-use Rattle.tables.specs.Books.{Answer, opening, editing, finding, pairing, inspecting}
+use Rattle.tables.specs.Books.{Answer, opening, editing, finding, pairing, inspecting, listing}
 use Rattle.tables.specs.Reply.{Reply, refused, given, Finding}
 
 abbrev pub printedRefused : ℕ → List ℕ
@@ -29,10 +29,11 @@ printedFound (given Finding.none) = filled (bytes "(none)") []
 printedFound (given (Finding.rule kind handling)) = filled (bytes "(rule # #)") (kind ∷ handling ∷ [])
 printedFound (given (Finding.dispute kind)) = filled (bytes "(dispute #)") (kind ∷ [])
 
--- what a call answers on a book of n kinds and m marks. No form asks for parties or inspect, and nothing is printed of them
+-- what a call answers on a book of n kinds and m marks. No form asks for parties, inspect or a list, and nothing is printed of them
 abbrev pub printedAnswer : (n m : ℕ) → Answer → List ℕ
 printedAnswer n m (opening reply) = printedOpened n m reply
 printedAnswer n m (editing reply) = printedEdited reply
 printedAnswer n m (finding reply) = printedFound reply
 printedAnswer n m (pairing reply) = []
 printedAnswer n m (inspecting reply) = []
+printedAnswer n m (listing reply) = []

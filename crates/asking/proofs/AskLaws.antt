@@ -1,13 +1,14 @@
 -- What refusals 1, 13, 2 and 3 have tested, and what a call is where they let it through or refuse it.
 --     let-through, asked-at, asked-between, asked-by    what `asked`, `askedAt`, `askedLink` and `askedCaller` have tested where they let a call through
 --     admitted                               the same of kind, mark and tables, as what comes after requires it
---     at-passes, link-passes, caller-passes        the refusals of a call that was let through
---     at-refuses, link-refuses, caller-refuses     .. and of one that was not
+--     rule-at                                what `askedRule` has tested after `askedAt`
+--     at-passes, rule-passes, link-passes, by-passes            the refusals of a call that was let through
+--     at-refuses, rule-refuses, link-refuses, caller-refuses    .. and of one that was not
 --     place-passes, place-refuses, place-is  refusals 1, 2 and 3 of a call on a kind and a mark of a book
 --     find-at, find-refused                  find by these cases
 -- Assumes nothing.
-use mathlib.Core.Path.{_≡_, refl, ap}
-use mathlib.Core.Bool.{Bool, true, false, cond, _&&_}
+use mathlib.Core.Path.{_≡_, refl, ap, _∙_}
+use mathlib.Core.Bool.{Bool, true, false, cond, _&&_, not}
 use Prim.Native.Nat.{ℕ, _+_, _*_, _<_}
 use native.Mathlib.Omega.{arith}
 use lib.Dec.{ltb}
@@ -29,7 +30,7 @@ use Rattle.tables.proofs.ShapeLaws.{sized-facts, shape-sized}
 use Rattle.asking.specs.declared.Asked.{Asked}
 use Rattle.asking.specs.declared.LinkAsked.{LinkAsked}
 use Rattle.asking.specs.declared.CallerAsked.{CallerAsked}
-use Rattle.asking.specs.Ask.{askedAt, asked, askedLink, askedCaller, checked, checkedCaller, Within}
+use Rattle.asking.specs.Ask.{askedAt, asked, askedRule, askedLink, askedCaller, checked, checkedCaller, Within}
 
 abbrev kindOr : Bool → ℕ → CheckedKind
 kindOr below c = cond below (CheckedKind.Kind (kind c)) CheckedKind.Outside
@@ -73,6 +74,29 @@ module _ (n m c i : ℕ) where
         go false q e = let w : Refusal.Kind ≡ why = cc in rw (← w) refl
         go true false e = let w : Refusal.Mark ≡ why = cc in rw (← w) refl
         go true true e = let z : _≡_ {A = ℕ} 0 1 = cc in absurd (omega arith)
+
+-- .. and a handling, where an edit of a rule has to have one
+pub rule-at : (a : Asked) (bare : Bool) {k : Kind} {j : Mark} → askedRule a bare ≡ Asked.At k j → (a ≡ Asked.At k j) × (bare ≡ false)
+rule-at (Asked.Refused why) bare e = let z : _≡_ {A = ℕ} 0 1 = cc in absurd (omega arith)
+rule-at (Asked.At k j) true e = let z : _≡_ {A = ℕ} 0 1 = cc in absurd (omega arith)
+rule-at (Asked.At k j) false e = (e, refl)
+
+module _ (n m c i : ℕ) (bare : Bool) {A : Type 0} (t : Tables) (next : Outcome A) where
+  pub rule-passes : {k : Kind} {j : Mark} → askedRule (askedAt (kindBelow n c) (markBelow m i)) bare ≡ Asked.At k j
+      → check 2 (ltb c n) t (check 3 (ltb i m) t (check 4 (not bare) t next)) ≡ next
+  unfolding check
+  rule-passes e = let (at, some) = rule-at _ bare e in rw some (at-passes n m c i t _ at)
+
+  pub rule-refuses : {why : Refusal} → askedRule (askedAt (kindBelow n c) (markBelow m i)) bare ≡ Asked.Refused why
+      → check 2 (ltb c n) t (check 3 (ltb i m) t (check 4 (not bare) t next)) ≡ leaves (refused (refusalNumber why)) t
+  unfolding check
+  rule-refuses {why} e = go (askedAt (kindBelow n c) (markBelow m i)) bare refl e
+    where
+      go : (a : Asked) (b : Bool) → askedAt (kindBelow n c) (markBelow m i) ≡ a → askedRule a b ≡ Asked.Refused why
+          → check 2 (ltb c n) t (check 3 (ltb i m) t (check 4 (not b) t next)) ≡ leaves (refused (refusalNumber why)) t
+      go (Asked.Refused w) b is e = at-refuses n m c i t _ (is ∙ e)
+      go (Asked.At k j) true is e = at-passes n m c i t _ is ∙ (let w : Refusal.Handling ≡ why = cc in rw (← w) refl)
+      go (Asked.At k j) false is e = let z : _≡_ {A = ℕ} 0 1 = cc in absurd (omega arith)
 
 -- .. on tables that have their lengths
 pub let-through : (s : Bool) {next : Asked} {k : Kind} {j : Mark} → asked s next ≡ Asked.At k j → (s ≡ true) × (next ≡ Asked.At k j)
@@ -142,9 +166,9 @@ module _ (n m : ℕ) (t : Tables) (c : ℕ) where
       go true true hs ha e = record { fits = hs; the-caller = cc; caller-below = ltb-true c callers ha }
 
   module _ {A : Type 0} (next : Outcome A) where
-    pub caller-passes : {by : Caller} → checkedCaller n m t c ≡ CallerAsked.By by → byCaller n m t c next ≡ next
+    pub by-passes : shaped n m t ≡ true → c < callers → byCaller n m t c next ≡ next
     unfolding check
-    caller-passes e = let a = asked-by e in rw (a .fits, lt-ltb c callers (a .caller-below)) refl
+    by-passes fits low = rw (fits, lt-ltb c callers low) refl
 
     pub caller-refuses : {why : Refusal} → checkedCaller n m t c ≡ CallerAsked.Refused why → byCaller n m t c next ≡ leaves (refused (refusalNumber why)) t
     unfolding check

@@ -1,6 +1,7 @@
 -- The refusals that calls begin with, by what the checked constructors give.
 --     askedAt        refusals 2 and 3, in this order, of a call on a kind and a mark
 --     asked          .. after refusal 1
+--     askedRule      refusal 4 after them, of an add whose handling is 0
 --     askedLink      refusal 2 of a call on a child and a parent
 --     askedCaller    refusals 1 and 13, in this order, of an edit
 --     checked, checkedCaller    the same on a book's tables
@@ -30,6 +31,11 @@ askedAt (CheckedKind.Kind k) (CheckedMark.Mark j) = Asked.At k j
 abbrev pub asked : (shaped : Bool) → Asked → Asked
 asked false next = Asked.Refused Refusal.Shape
 asked true next = next
+
+abbrev pub askedRule : Asked → (bare : Bool) → Asked
+askedRule (Asked.Refused why) bare = Asked.Refused why
+askedRule (Asked.At k j) true = Asked.Refused Refusal.Handling
+askedRule (Asked.At k j) false = Asked.At k j
 
 abbrev pub askedLink : (child parent : CheckedKind) → LinkAsked
 askedLink CheckedKind.Outside p = LinkAsked.Refused Refusal.Kind

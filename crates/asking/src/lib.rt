@@ -1,4 +1,4 @@
-// The checks that the calls begin with: refusals 1, 13, 2 and 3.
+// The checks that the calls begin with: refusals 1, 13, 2, 3 and 4.
 use inheritance::CheckedKind;
 use inheritance::CheckedMark;
 use inheritance::Kind;
@@ -8,10 +8,12 @@ use tables::CheckedCaller;
 use tables::Refusal;
 use tables::TALLIES;
 ghost use mathlib.Core.Path.{_≡_};
+ghost use mathlib.Core.Bool.{_&&_};
+ghost use lib.Dec.{eqb};
 ghost use Rattle.inheritance.specs.Checked.{kindBelow, markBelow};
 ghost use Rattle.tables.specs.Controller.{shaped-bytes};
 ghost use Rattle.tables.specs.Tables.{lent, sized, shaped};
-ghost use Rattle.asking.specs.Ask.{askedAt, askedLink, checked, checkedCaller};
+ghost use Rattle.asking.specs.Ask.{askedAt, askedRule, askedLink, checked, checkedCaller};
 
 // A kind and a mark of the book that a call is put to, or its refusal.
 pub enum Asked {
@@ -122,7 +124,23 @@ pub fn ask_at(n: u16, m: u16, kind: Kind, mark: Mark) -> Asked
     }
 }
 
-// The same after refusal 1, on tables of numbers.
+// The same of an edit of a rule, and then refusal 4: an add has a handling.
+pub fn ask_rule(n: u16, m: u16, kind: Kind, mark: Mark, handling: u16, adding: bool) -> Asked
+    ensures { λ r. ⌜ r ≡ askedRule (askedAt (kindBelow n (kind .0)) (markBelow m (mark .0))) (adding && eqb handling 0) ⌝ }
+{
+    match ask_at(n, m, kind, mark) {
+        Asked::Refused(why) => Asked::Refused(why),
+        Asked::At(k, j) => {
+            if adding & (handling == 0) {
+                Asked::Refused(Refusal::Handling)
+            } else {
+                Asked::At(k, j)
+            }
+        }
+    }
+}
+
+// Refusals 2 and 3 after refusal 1, on tables of numbers.
 pub fn ask_place(
     n: u16,
     m: u16,

@@ -13,6 +13,7 @@ pub use edits::take_link;
 pub use edits::take_rule;
 pub use finding::find;
 pub use inspecting::inspect;
+pub use lists::make_list;
 pub use renewing::open;
 pub use renewing::refresh;
 

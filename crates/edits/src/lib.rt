@@ -1,9 +1,9 @@
 // The four edits, and one function for any of them given as a value.
 use tables::Caller;
-use tables::Edit;
+use tables::Change;
 use tables::Edited;
 ghost use mathlib.Core.Path.{_≡_};
-ghost use Rattle.tables.specs.Books.{editOutcome, editOf};
+ghost use Rattle.tables.specs.Lists.{editOutcome, changeOf};
 ghost use Rattle.tables.specs.Calls.{leaves};
 ghost use Rattle.tables.specs.Reply.{edited};
 ghost use Rattle.tables.specs.Tables.{lent};
@@ -12,10 +12,10 @@ pub use link_edits::take_link;
 pub use rule_edits::add_rule;
 pub use rule_edits::take_rule;
 
-// The caller's edit is made on the tables.
+// The caller's change is made on the tables.
 pub fn make(
     caller: Caller,
-    edit: Edit,
+    change: Change,
     n: u16,
     m: u16,
     links: &mut [u8],
@@ -25,10 +25,10 @@ pub fn make(
     disputes: &mut [u16],
 ) -> Edited
     ensures { λ r. ⌜ leaves (edited r) (lent (now (links .exit)) (now (rules .exit)) (now (entries .exit)) (now (tally .exit)) (now (disputes .exit)))
-        ≡ editOutcome n m (lent (now (links .entry)) (now (rules .entry)) (now (entries .entry)) (now (tally .entry)) (now (disputes .entry))) (caller .0) (editOf edit) ⌝ }
+        ≡ editOutcome n m (lent (now (links .entry)) (now (rules .entry)) (now (entries .entry)) (now (tally .entry)) (now (disputes .entry))) (caller .0) (changeOf change) ⌝ }
 {
-    match edit {
-        Edit::AddRule(kind, mark, handling) => {
+    match change {
+        Change::AddRule(kind, mark, handling) => {
             add_rule(
                 n,
                 m,
@@ -43,7 +43,7 @@ pub fn make(
                 handling,
             )
         }
-        Edit::TakeRule(kind, mark) => take_rule(
+        Change::TakeRule(kind, mark) => take_rule(
             n,
             m,
             links,
@@ -55,7 +55,7 @@ pub fn make(
             kind,
             mark,
         ),
-        Edit::AddLink(child, parent) => {
+        Change::AddLink(child, parent) => {
             add_link(
                 n,
                 m,
@@ -69,7 +69,7 @@ pub fn make(
                 parent,
             )
         }
-        Edit::TakeLink(child, parent) => {
+        Change::TakeLink(child, parent) => {
             take_link(
                 n,
                 m,

@@ -1,15 +1,18 @@
 // The calls of a house for programs written in C: each answer is one number, and the tables are lent as numbers.
 use inheritance::Kind;
 use inheritance::Mark;
+use packing::pack_carried;
 use packing::pack_edited;
 use packing::pack_inspected;
 use packing::pack_opened;
 use packing::pack_pair;
 use tables::Caller;
+use tables::Edit;
 ghost use mathlib.Core.Path.{_≡_};
 ghost use Rattle.tables.specs.Calls.{openBook, addRule, takeRule, addLink, takeLink, parties, inspect, refresh};
+ghost use Rattle.tables.specs.Lists.{makeList};
 ghost use Rattle.tables.specs.Tables.{lent};
-ghost use Rattle.packing.specs.Packed.{packedOpened, packedEdited, packedPair, packedFault, Answers};
+ghost use Rattle.packing.specs.Packed.{packedOpened, packedEdited, packedPair, packedFault, packedListing, Answers};
 
 // Open.
 #[no_mangle]
@@ -183,4 +186,23 @@ pub extern "C" fn house_parties(
         Kind(kind),
         Mark(mark),
     ))
+}
+
+// A list of edits, all by one caller.
+#[no_mangle]
+pub extern "C" fn house_make_list(
+    n: u16,
+    m: u16,
+    edits: &[Edit],
+    links: &mut [u8],
+    rules: &mut [u16],
+    entries: &mut [u16],
+    tally: &mut [u32],
+    disputes: &mut [u16],
+    caller: u16,
+) -> u64
+    ensures { λ r. ⌜ Answers packedListing (makeList n m (lent (now (links .entry)) (now (rules .entry)) (now (entries .entry)) (now (tally .entry)) (now (disputes .entry))) caller (now (edits .entry))) r (lent (now (links .exit)) (now (rules .exit)) (now (entries .exit)) (now (tally .exit)) (now (disputes .exit))) ⌝ }
+{
+    let by = Caller(caller);
+    pack_carried(calls::make_list(n, m, edits, links, rules, entries, tally, disputes, by))
 }

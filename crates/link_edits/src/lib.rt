@@ -4,60 +4,20 @@ use asking::LinkAsked;
 use asking::ask_caller;
 use asking::ask_link;
 use inheritance::Kind;
-use relation::next;
-use relation::test;
-use relinking::apply_link;
+use relinking::set_link;
 use soundness::examine;
 use tables::Caller;
 use tables::Edited;
 use tables::Refusal;
 ghost use mathlib.Core.Path.{_≡_};
-ghost use mathlib.Core.Bool.{true, false};
+ghost use mathlib.Core.Bool.{true};
 ghost use Prim.Native.Nat.{_<_};
-ghost use Rattle.relation.specs.Bit.{bit};
 ghost use Rattle.tables.specs.Caller.{callers};
 ghost use Rattle.tables.specs.Calls.{leaves, addLink, takeLink};
 ghost use Rattle.tables.specs.Reply.{edited};
 ghost use Rattle.tables.specs.Tables.{lent, shaped};
-ghost use Rattle.link_edits.specs.LinkEdit.{judged, linkEdit, linkCall};
-
-// What the links say to an edit.
-pub enum Verdict {
-    Allowed,
-    Refused(Refusal),
-}
-
-// Refusals 7 and 9 of an add, in this order, and 8 of a take. The rows have the links, and reach the places of the kinds at or
-// above each; `at` is the place of the child.
-fn judge(
-    rows: &[u64; 256],
-    reach: &[u64; 256],
-    child: Kind,
-    parent: Kind,
-    at: usize,
-    adding: bool,
-) -> Verdict
-    requires { ⌜ (child .0 < 128) × (parent .0 < 128) × (at < 128) ⌝ }
-    ensures { λ r. ⌜ r ≡ judged adding (bit (now (rows .entry)) (child .0) (parent .0)) (bit (now (reach .entry)) (parent .0) at) ⌝ }
-{
-    let c = child.0 as usize;
-    let p = parent.0 as usize;
-    let linked = test(rows, c, p);
-    let cycle = test(reach, p, at);
-    if adding {
-        if linked {
-            Verdict::Refused(Refusal::Linked)
-        } else if cycle {
-            Verdict::Refused(Refusal::Cycle)
-        } else {
-            Verdict::Allowed
-        }
-    } else if linked {
-        Verdict::Allowed
-    } else {
-        Verdict::Refused(Refusal::NotLinked)
-    }
-}
+ghost use Rattle.relinking.specs.Relinked.{linkEdit};
+ghost use Rattle.link_edits.specs.LinkEdit.{linkCall};
 
 // The link between two kinds of the book is added or taken.
 fn edit_link(
@@ -96,27 +56,23 @@ fn edit_link(
     if !sound {
         return Edited::Refused(Refusal::Unsound);
     }
-    let at = next(&reach, child.0 as usize, 0);
-    match judge(&rows, &reach, child, parent, at, adding) {
-        Verdict::Refused(why) => Edited::Refused(why),
-        Verdict::Allowed => Edited::Done(apply_link(
-            n,
-            m,
-            links,
-            rules,
-            entries,
-            tally,
-            disputes,
-            &mut rows,
-            &mut order,
-            &mut reach,
-            &mut ruled,
-            caller,
-            child,
-            parent,
-            adding,
-        )),
-    }
+    set_link(
+        n,
+        m,
+        links,
+        rules,
+        entries,
+        tally,
+        disputes,
+        &mut rows,
+        &mut order,
+        &mut reach,
+        &mut ruled,
+        caller,
+        child,
+        parent,
+        adding,
+    )
 }
 
 // The link between any two kinds is added or taken.

@@ -1,4 +1,5 @@
-// The answers of the calls as one 32-bit number each, for programs in C.
+// The answers of the calls as one number each, for programs in C.
+use tables::Carried;
 use tables::Edited;
 use tables::Inspected;
 use tables::Opened;
@@ -6,8 +7,8 @@ use tables::Pair;
 use tables::Refusal;
 ghost use mathlib.Core.Path.{_≡_};
 ghost use Prim.Native.Nat.{_+_};
-ghost use Rattle.tables.specs.Reply.{refusalNumber, opened, edited, paired, inspected};
-ghost use Rattle.packing.specs.Packed.{packedOpened, packedEdited, packedPair, packedFault};
+ghost use Rattle.tables.specs.Reply.{refusalNumber, opened, edited, paired, inspected, carried};
+ghost use Rattle.packing.specs.Packed.{packedOpened, packedEdited, packedPair, packedFault, packedListing};
 
 // A refusal as a number.
 fn pack_refusal(why: Refusal) -> u32
@@ -57,5 +58,19 @@ pub fn pack_inspected(reply: Inspected) -> u32
         Inspected::WrongEntry(place) => 262144 + place as u32,
         Inspected::WrongCount(mark) => 327680 + mark.0 as u32,
         Inspected::Refused(why) => pack_refusal(why),
+    }
+}
+
+// What a list of edits answers as a number of 64 bits.
+pub fn pack_carried(reply: Carried) -> u64
+    ensures { λ r. ⌜ r ≡ packedListing (carried reply) ⌝ }
+{
+    match reply {
+        Carried::Whole(accepted, changed) => 4294967296 * changed as u64 + accepted as u64,
+        Carried::Stopped(accepted, changed, why) => {
+            let stop = 256 + why.number() as u64;
+            4294967296 * changed as u64 + 65536 * stop + accepted as u64
+        }
+        Carried::Refused(why) => pack_refusal(why) as u64,
     }
 }

@@ -1,7 +1,7 @@
 -- The change of a link, step by step.
---     link-prepared     what is prepared once the link is changed in table and rows
---     link-untouched    what is then known of the entries
---     link-done         what the change leaves and answers
+--     link-loaded, link-prepared    the rows have the links once the link is changed in table and rows, and what is then prepared
+--     link-untouched                what is then known of the entries
+--     link-done                     what the change leaves and answers
 -- Assumes nothing.
 use mathlib.Core.Path.{_≡_, refl, sym, _∙_, ap}
 use mathlib.Core.Bool.{Bool, true, false, _&&_, false≢true}
@@ -85,11 +85,11 @@ module _ (n : ℕ) (links : List ℕ) (c p : ℕ) (c-in : c < n) (p-in : p < n) 
 module _ (n m : ℕ) (t : Tables) (c p : ℕ) (adding : Bool) {rows order reach ruled : List ℕ} (k : Known n m t rows order reach ruled) (c-in : c < n) (p-in : p < n)
     (calm : Acyclic n (upOf n (linked n (t .links) c p adding)))
     {rows′ order′ reach′ ruled′ : List ℕ} (r : Relinked n m c p adding (t .rules) rows rows′ order′ reach′ ruled′) where
-  loaded-after : Loaded n (linked n (t .links) c p adding) rows′
-  loaded-after = reset-loaded n (t .links) c p c-in p-in (has k .lengths .links-length) adding (k .loaded) (r .reset)
+  pub link-loaded : Loaded n (linked n (t .links) c p adding) rows′
+  link-loaded = reset-loaded n (t .links) c p c-in p-in (has k .lengths .links-length) adding (k .tracked .loaded) (r .reset)
 
   acyclic-after : Acyclic n (bit rows′)
-  acyclic-after = acyclic-agree n (upOf n (linked n (t .links) c p adding)) (bit rows′) (links-rows n (linked n (t .links) c p adding) rows′ (has k .sizes .kinds) loaded-after) calm
+  acyclic-after = acyclic-agree n (upOf n (linked n (t .links) c p adding)) (bit rows′) (links-rows n (linked n (t .links) c p adding) rows′ (has k .sizes .kinds) link-loaded) calm
 
   same-but : SameBut n (bit rows′) (bit rows) c p
   same-but d q hd hq other =
@@ -108,5 +108,5 @@ module _ (n m : ℕ) (t : Tables) (c p : ℕ) (adding : Bool) {rows order reach 
       → leaves (given count) (lent links (t .rules) new tally disputes) ≡ accepted n m t caller (linked n (t .links) c p adding) (t .rules)
   link-done caller {new = new} stored s recounted counted =
       rw (stored, counted)
-      (given-accepted n m t caller (linked n (t .links) c p adding) (t .rules) rows′ (has k .lengths) loaded-after acyclic-after
+      (given-accepted n m t caller (linked n (t .links) c p adding) (t .rules) rows′ (has k .lengths) link-loaded acyclic-after
       (all-settled n m (bit rows′) (t .rules) (t .entries) new (has k .sizes .entries-size) s) recounted)

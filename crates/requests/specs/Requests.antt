@@ -9,7 +9,8 @@ use mathlib.Core.Path.{_≡_}
 use mathlib.Core.Bool.{Bool, true, false}
 use Prim.Native.Nat.{ℕ}
 use Rattle.tables.specs.Reply.{Reply, refused, given}
-use Rattle.tables.specs.Books.{Edit, Request, Call, callOf}
+use Rattle.tables.specs.Lists.{Change}
+use Rattle.tables.specs.Books.{Request, Call, callOf}
 use Rattle.forms.specs.Forms.{Form, openBook, addRule, takeRule, addLink, takeLink, find, bad}
 use Rattle.requests.specs.declared.Wanted.{Wanted}
 
@@ -23,10 +24,10 @@ program = 0
 -- the call that a form asks for on a book of n kinds and m marks: open names its own size, every other form has the book's
 abbrev pub callFor : (n m : ℕ) → Form → Reply Call
 callFor n m (openBook k j) = given (asks k j Request.openBook)
-callFor n m (addRule kind mark handling) = given (asks n m (Request.edit program (Edit.addRule kind mark handling)))
-callFor n m (takeRule kind mark) = given (asks n m (Request.edit program (Edit.takeRule kind mark)))
-callFor n m (addLink child parent) = given (asks n m (Request.edit program (Edit.addLink child parent)))
-callFor n m (takeLink child parent) = given (asks n m (Request.edit program (Edit.takeLink child parent)))
+callFor n m (addRule kind mark handling) = given (asks n m (Request.edit program (Change.addRule kind mark handling)))
+callFor n m (takeRule kind mark) = given (asks n m (Request.edit program (Change.takeRule kind mark)))
+callFor n m (addLink child parent) = given (asks n m (Request.edit program (Change.addLink child parent)))
+callFor n m (takeLink child parent) = given (asks n m (Request.edit program (Change.takeLink child parent)))
 callFor n m (find kind mark) = given (asks n m (Request.find kind mark))
 callFor n m bad = refused 12
 
@@ -34,6 +35,7 @@ callFor n m bad = refused 12
 abbrev pub fresh : Request → Bool
 fresh Request.openBook = true
 fresh (Request.edit caller e) = false
+fresh (Request.editAll caller es) = false
 fresh (Request.find kind mark) = false
 fresh (Request.parties kind mark) = false
 fresh Request.inspect = false

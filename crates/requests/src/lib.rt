@@ -2,7 +2,7 @@
 use forms::Form;
 use tables::Call;
 use tables::Caller;
-use tables::Edit;
+use tables::Change;
 use tables::Request;
 ghost use mathlib.Core.Path.{_≡_};
 ghost use Rattle.forms.specs.Forms.{formed};
@@ -30,10 +30,10 @@ pub fn call_for(form: Form, n: u16, m: u16) -> Wanted
             };
             return Wanted::Call(open);
         }
-        Form::AddRule(k, j, h) => Request::Edit(PROGRAM, Edit::AddRule(k, j, h)),
-        Form::TakeRule(k, j) => Request::Edit(PROGRAM, Edit::TakeRule(k, j)),
-        Form::AddLink(c, p) => Request::Edit(PROGRAM, Edit::AddLink(c, p)),
-        Form::TakeLink(c, p) => Request::Edit(PROGRAM, Edit::TakeLink(c, p)),
+        Form::AddRule(k, j, h) => Request::Edit(PROGRAM, Change::AddRule(k, j, h)),
+        Form::TakeRule(k, j) => Request::Edit(PROGRAM, Change::TakeRule(k, j)),
+        Form::AddLink(c, p) => Request::Edit(PROGRAM, Change::AddLink(c, p)),
+        Form::TakeLink(c, p) => Request::Edit(PROGRAM, Change::TakeLink(c, p)),
         Form::Find(k, j) => Request::Find(k, j),
         Form::Bad => return Wanted::Bad,
     };

@@ -43,8 +43,7 @@ module _ (n m : ℕ) (t : Tables) where
   known rows order reach ruled fits examined found = record {
     fits = fits;
     is-sound = sym (examined .answer (t .tally)) ∙ found;
-    loaded = examined .loaded found;
-    prepared = examined .prepared found;
+    tracked = record { loaded = examined .loaded found; prepared = examined .prepared found };
   }
 
   -- the rows have the links
@@ -62,17 +61,17 @@ module _ {n m : ℕ} {t : Tables} {rows order reach ruled : List ℕ} (k : Known
   has = passed n m t (k .fits) (k .is-sound)
 
   pub acyclic : Acyclic n (bit rows)
-  acyclic = acyclic-agree n (upOf n (t .links)) (bit rows) (links-rows n (t .links) rows (has .sizes .kinds) (k .loaded)) (has .before .acyclic)
+  acyclic = acyclic-agree n (upOf n (t .links)) (bit rows) (links-rows n (t .links) rows (has .sizes .kinds) (k .tracked .loaded)) (has .before .acyclic)
 
   -- the entries are the lookups by the rows
   pub looked : t .entries ≡ entriesOf n m (bit rows) (t .rules)
   looked =
       has .before .entries
-      ∙ entriesOf-agree n (upOf n (t .links)) (bit rows) (links-rows n (t .links) rows (has .sizes .kinds) (k .loaded)) m (omega (arith, has .sizes .kinds)) (has .before .acyclic) (t .rules)
+      ∙ entriesOf-agree n (upOf n (t .links)) (bit rows) (links-rows n (t .links) rows (has .sizes .kinds) (k .tracked .loaded)) m (omega (arith, has .sizes .kinds)) (has .before .acyclic) (t .rules)
 
   -- the dispute counts are those of the entries
   pub counts : Counted m (t .entries) (t .disputes)
   counts = counted n m (has .sizes .entries-size) (has .sizes .kinds) (has .before .disputes)
 
   pub known-place : (c : ℕ) → c < n → {i : ℕ} → First (bit reach c) 0 128 i → (i < n) × (getD order i 0 ≡ c)
-  known-place c h first = kind-place n rows order reach (k .prepared .arranged) (has .sizes .kinds) c h first
+  known-place c h first = kind-place n rows order reach (k .tracked .prepared .arranged) (has .sizes .kinds) c h first

@@ -1,16 +1,15 @@
 // The edits of a rule. Nothing is written before the tables are known to be sound.
 use asking::Asked;
 use asking::CallerAsked;
-use asking::ask_at;
 use asking::ask_caller;
+use asking::ask_rule;
 use inheritance::Kind;
 use inheritance::Mark;
-use reruling::apply_rule;
+use reruling::set_rule;
 use soundness::examine;
 use tables::Caller;
 use tables::Edited;
 use tables::Refusal;
-use tables::place;
 ghost use mathlib.Core.Path.{_≡_};
 ghost use mathlib.Core.Bool.{true};
 ghost use Prim.Native.Nat.{_<_};
@@ -18,7 +17,8 @@ ghost use Rattle.tables.specs.Caller.{callers};
 ghost use Rattle.tables.specs.Calls.{leaves, addRule, takeRule};
 ghost use Rattle.tables.specs.Reply.{edited};
 ghost use Rattle.tables.specs.Tables.{lent, shaped};
-ghost use Rattle.rule_edits.specs.RuleEdit.{ruleEdit, ruleCall};
+ghost use Rattle.reruling.specs.Reruled.{ruleEdit};
+ghost use Rattle.rule_edits.specs.RuleEdit.{ruleCall};
 
 // The rule of a kind of the book for a mark of it is set, and a handling of 0 takes it.
 fn edit_rule(
@@ -57,12 +57,10 @@ fn edit_rule(
     if !sound {
         return Edited::Refused(Refusal::Unsound);
     }
-    if (handling == 0) & (rules[place(kind, mark, m)] == 0) {
-        return Edited::Refused(Refusal::NoRule);
-    }
-    let count = apply_rule(
+    set_rule(
         n,
         m,
+        links,
         rules,
         entries,
         tally,
@@ -75,8 +73,7 @@ fn edit_rule(
         kind,
         mark,
         handling,
-    );
-    Edited::Done(count)
+    )
 }
 
 // The rule of any kind for any mark is set, and a handling of 0, which an add refuses, takes it.
@@ -99,26 +96,22 @@ fn change_rule(
 {
     match ask_caller(n, m, links, rules, entries, tally, disputes, caller) {
         CallerAsked::Refused(why) => Edited::Refused(why),
-        CallerAsked::By(by) => match ask_at(n, m, kind, mark) {
+        CallerAsked::By(by) => match ask_rule(n, m, kind, mark, handling, adding) {
             Asked::Refused(why) => Edited::Refused(why),
             Asked::At(k, j) => {
-                if adding & (handling == 0) {
-                    Edited::Refused(Refusal::Handling)
-                } else {
-                    edit_rule(
-                        n,
-                        m,
-                        links,
-                        rules,
-                        entries,
-                        tally,
-                        disputes,
-                        by,
-                        k,
-                        j,
-                        handling,
-                    )
-                }
+                edit_rule(
+                    n,
+                    m,
+                    links,
+                    rules,
+                    entries,
+                    tally,
+                    disputes,
+                    by,
+                    k,
+                    j,
+                    handling,
+                )
             }
         },
     }

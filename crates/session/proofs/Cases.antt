@@ -8,7 +8,8 @@ use Prim.Native.String.{String}
 use Rattle.patterns.specs.Bytes.{bytes}
 use Rattle.inheritance.specs.Above.{above, through, count}
 use Rattle.inheritance.specs.Lookup.{lookup, within, inherit, left, least, seen, some-below, passing, meet, join}
-use Rattle.tables.specs.Books.{answerTo, editOutcome}
+use Rattle.tables.specs.Lists.{editOutcome}
+use Rattle.tables.specs.Books.{answerTo}
 use Rattle.tables.specs.Tables.{sized, sound, sound-over, bytes-right, tallied, well-linked, all-below, differing, entriesOf, entryAt, grid, listed, disputesAt, disputesOf}
 use Rattle.tables.specs.Calls.{openBook, addRule, addLink, takeLink, find, accepted, check, findingOf}
 use Rattle.patterns.specs.Decimal.{numberAt, isDigit, further, digits, lastDigits, width}

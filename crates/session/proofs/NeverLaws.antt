@@ -17,7 +17,8 @@ use Rattle.tables.specs.Reply.{Reply, refused, given, Finding}
 use Rattle.tables.specs.Tables.{shaped, sound}
 use Rattle.tables.specs.Calls as calls
 use Rattle.tables.specs.Calls.{Outcome, leaves, check, zeros}
-use Rattle.tables.specs.Books.{Edit, Request, Call, Answer, Result, opening, editing, finding, pairing, inspecting, RefusedBy, answerTo, outcome}
+use Rattle.tables.specs.Lists.{Change}
+use Rattle.tables.specs.Books.{Request, Call, Answer, Result, opening, editing, finding, pairing, inspecting, listing, RefusedBy, answerTo, outcome}
 use Rattle.tables.proofs.BookLaws.{Consistent, consistent-sound, opened-consistent, call-consistent}
 use Rattle.tables.proofs.CallLaws.{given-not-refused, check-cases, entry-found}
 use Rattle.tables.proofs.CallerLaws.{caller-known}
@@ -67,6 +68,7 @@ module _ (y : ℕ) (short : width y < 5) (small : y ≤ 65535) where
   told n m (finding (given (Finding.dispute k))) other = byte-differs 1 (λ e. omega arith)
   told n m (pairing reply) other = byte-differs 0 (λ e. omega arith)
   told n m (inspecting reply) other = byte-differs 0 (λ e. omega arith)
+  told n m (listing reply) other = byte-differs 0 (λ e. omega arith)
 
 abbrev Apart : List ℕ → Type 0
 Apart line = (line ≢ printedRefused 5) × (line ≢ printedRefused 10) × (line ≢ printedRefused 13)
@@ -112,7 +114,7 @@ module _ (b : Book) (right : Right b) where
     call-apart thirteen =
         answer-apart (b .n) (b .m) (result .answer) (tables.never-5 call (b .tables) sound-or-none) (tables.never-10 call (b .tables) sound-or-none) thirteen
 
-  edit-apart : (e : Edit) → Apart (printedAnswer (b .n) (b .m) (result (Request.edit program e) .answer))
+  edit-apart : (e : Change) → Apart (printedAnswer (b .n) (b .m) (result (Request.edit program e) .answer))
   unfolding answerTo
   edit-apart e = call-apart (Request.edit program e) (caller-known (b .n) (b .m) (b .tables) program e (omega arith))
 

@@ -10,8 +10,10 @@ use Rattle.tables.specs.Caller.{callers}
 use Rattle.tables.specs.Reply.{Reply, refused, given}
 use Rattle.tables.specs.Calls as calls
 use Rattle.tables.specs.Calls.{zeros}
-use Rattle.tables.specs.Books.{Edit, Request, answerTo}
-use Rattle.tables.proofs.BookLaws.{zeros-at, run-keeps}
+use Rattle.tables.specs.Lists.{Change}
+use Rattle.tables.specs.Books.{Request, answerTo}
+use Rattle.tables.proofs.BookLaws.{zeros-at}
+use Rattle.tables.proofs.ListLaws.{run-keeps}
 use Rattle.tables.proofs.CallLaws.{check-holds, find-keeps}
 use Rattle.tables.proofs.CallerLaws.{others-kept}
 use Rattle.forms.specs.Forms.{Form, openBook, addRule, takeRule, addLink, takeLink, find, bad, formOf}
@@ -29,7 +31,7 @@ module _ (c : ℕ) (other : c ≢ program) where
     open-idle n m (given _) = check-holds 1 (zeros n m) _ (λ t. getD (t .tally) c 0 ≡ 0) _ (zeros-at callers c) λ _. zeros-at callers c
     open-idle n m (refused x) = idle
 
-    edit-idle : (e : Edit) → getD (answerTo (b .n) (b .m) (b .tables) (Request.edit program e) .tables .tally) c 0 ≡ 0
+    edit-idle : (e : Change) → getD (answerTo (b .n) (b .m) (b .tables) (Request.edit program e) .tables .tally) c 0 ≡ 0
     unfolding answerTo
     edit-idle e = others-kept (b .n) (b .m) (b .tables) program c other e ∙ idle
 

@@ -5,7 +5,7 @@
 use mathlib.Core.Path.{_≡_, refl, sym, ap}
 use mathlib.Core.List.{List, [], _∷_, _++_, append-assoc}
 use Prim.Native.Nat.{ℕ}
-use Rattle.tables.specs.Books.{run}
+use Rattle.tables.specs.Lists.{run}
 use Rattle.session.specs.Line.{Book, lineOf}
 use Rattle.session.specs.Session.{bookAfter, answers, written}
 

@@ -74,6 +74,7 @@ open-or-other : (n m : ℕ) (t : Tables) (r : Request) → (r ≡ Request.openBo
 unfolding answerTo
 open-or-other n m t Request.openBook = inl refl
 open-or-other n m t (Request.edit caller e) = inr (record { not-fresh = refl; size = λ call k. refl })
+open-or-other n m t (Request.editAll caller es) = inr (record { not-fresh = refl; size = λ call k. refl })
 open-or-other n m t (Request.find kind mark) = inr (record { not-fresh = refl; size = λ call k. refl })
 open-or-other n m t (Request.parties kind mark) = inr (record { not-fresh = refl; size = λ call k. refl })
 open-or-other n m t Request.inspect = inr (record { not-fresh = refl; size = λ call k. refl })

@@ -10,7 +10,7 @@ use mathlib.Core.List.{List, _++_}
 use Prim.Native.Nat.{ℕ, _*_}
 use lib.ListN.{length, take, drop}
 use Rattle.patterns.specs.Pattern.{Printed}
-use Rattle.tables.specs.Books.{Call, Answer, opening, editing, finding, pairing, inspecting}
+use Rattle.tables.specs.Books.{Call, Answer, opening, editing, finding, pairing, inspecting, listing}
 use Rattle.tables.specs.Reply.{Reply, refused, given}
 use Rattle.tables.specs.Tables.{Tables, lent, LengthsOf}
 use Rattle.session.specs.declared.Turned.{Turned}
@@ -48,6 +48,7 @@ sizeAfter n m call (editing reply) length = ofSize n m length
 sizeAfter n m call (finding reply) length = ofSize n m length
 sizeAfter n m call (pairing reply) length = ofSize n m length
 sizeAfter n m call (inspecting reply) length = ofSize n m length
+sizeAfter n m call (listing reply) length = ofSize n m length
 
 -- `turn` was done to the book: the book after it stands in the leading parts of the tables, what lies behind stays, and its answer stands at the
 -- front of `out`

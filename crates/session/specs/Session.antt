@@ -10,7 +10,7 @@ use mathlib.Core.List.{List, [], _∷_, _++_}
 use Prim.Native.Nat.{ℕ}
 use lib.Dec.{eqb}
 use lib.ListN.{replicate}
-use Rattle.tables.specs.Books.{run}
+use Rattle.tables.specs.Lists.{run}
 use Rattle.tables.specs.Caller.{callers}
 use Rattle.tables.specs.Tables.{lent}
 use Rattle.session.specs.Line.{Book, lineOf}

@@ -14,7 +14,7 @@ use borrow.Author.Tests.{ne-eqb}
 use lib.Dec.{eqb}
 use lib.ListN.{length, getD, take, drop, length-append, length-take, length-drop, take-append-drop}
 use lib.Seq.{drop-cons, drop-drop, getD-drop, getD-take, take-all}
-use Rattle.tables.specs.Books.{run}
+use Rattle.tables.specs.Lists.{run}
 use Rattle.tables.specs.Tables.{Tables}
 use Rattle.session.specs.Line.{Book, lineOf}
 use Rattle.session.specs.Session.{answers, written}

@@ -19,7 +19,8 @@ use Rattle.patterns.proofs.DecimalLaws.{length-digits, digits-most}
 use Rattle.patterns.proofs.PatternLaws.{length-filled}
 use Rattle.forms.specs.Forms.{Form, openBook, addRule, takeRule, addLink, takeLink, find, bad, formOf}
 use Rattle.answers.specs.Answers.{printedRefused, printedOpened, printedEdited, printedFound}
-use Rattle.tables.specs.Books.{Edit, editOutcome, answerTo}
+use Rattle.tables.specs.Lists.{Change, editOutcome}
+use Rattle.tables.specs.Books.{answerTo}
 use Rattle.tables.specs.Calls as calls
 use Rattle.tables.specs.Calls.{Outcome, zeros, findingOf}
 use Rattle.tables.specs.Reply.{Reply, refused, given, Finding}
@@ -118,10 +119,10 @@ find-short n m t kind mark =
 turn-short : (b : Book) (form : Form) → length (turnOf b form .printed) ≤ 16
 unfolding turnOf carries answerTo
 turn-short b (openBook n m) = open-short n m (zeros n m)
-turn-short b (addRule kind mark handling) = edited-short (editOutcome (b .n) (b .m) (b .tables) program (Edit.addRule kind mark handling) .reply)
-turn-short b (takeRule kind mark) = edited-short (editOutcome (b .n) (b .m) (b .tables) program (Edit.takeRule kind mark) .reply)
-turn-short b (addLink child parent) = edited-short (editOutcome (b .n) (b .m) (b .tables) program (Edit.addLink child parent) .reply)
-turn-short b (takeLink child parent) = edited-short (editOutcome (b .n) (b .m) (b .tables) program (Edit.takeLink child parent) .reply)
+turn-short b (addRule kind mark handling) = edited-short (editOutcome (b .n) (b .m) (b .tables) program (Change.addRule kind mark handling) .reply)
+turn-short b (takeRule kind mark) = edited-short (editOutcome (b .n) (b .m) (b .tables) program (Change.takeRule kind mark) .reply)
+turn-short b (addLink child parent) = edited-short (editOutcome (b .n) (b .m) (b .tables) program (Change.addLink child parent) .reply)
+turn-short b (takeLink child parent) = edited-short (editOutcome (b .n) (b .m) (b .tables) program (Change.takeLink child parent) .reply)
 turn-short b (find kind mark) = find-short (b .n) (b .m) (b .tables) kind mark
 turn-short b bad = refused-short 12
 

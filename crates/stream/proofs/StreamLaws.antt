@@ -14,7 +14,7 @@ use borrow.Author.Tests.{leb-true, leb-false}
 use lib.Dec.{eqb, leb}
 use lib.ListN.{length, take, replicate, length-take}
 use lib.Seq.{take-all, length-take-le}
-use Rattle.tables.specs.Books.{run}
+use Rattle.tables.specs.Lists.{run}
 use Rattle.tables.specs.Caller.{callers}
 use Rattle.tables.specs.Tables.{Tables, lent}
 use Rattle.forms.specs.Forms.{formOf}

@@ -4,7 +4,7 @@
 --     books-agree                  demand 3, between two books of the same n and m: where every place of links and of rules holds the same number in both
 --                                  books, every place of entries and of the dispute counts does too
 --     Consistent                   the invariant that they rest on; opened-consistent, call-consistent: an accepted open gives it, every call keeps it
---     run-keeps                    what every step keeps, a list of steps keeps
+--     tested-consistent            tables that pass the checks of shape and soundness have it; edit-consistent: every edit keeps it
 -- Assumes nothing.
 use mathlib.Core.Path.{_≡_, refl, sym, ap, ap₂, _∙_, subst}
 use mathlib.Core.Bool.{Bool, true, _&&_, not, false≢true, and-eq-true-iff}
@@ -28,12 +28,14 @@ use Rattle.tables.specs.Tables.{Tables, lent, shaped, LengthsOf, upOf, o
 use Rattle.tables.specs.Tables.{is-dispute, disputesAt, disputesOf}
 use Rattle.tables.specs.Calls as calls
 use Rattle.tables.specs.Calls.{zeros}
-use Rattle.tables.specs.Books.{Edit, Request, Call, editOutcome, answerTo, after, run, Agree}
-use Rattle.tables.specs.Books.Edit.{addRule, takeRule, addLink, takeLink}
-use Rattle.tables.specs.Books.Request.{openBook, edit, find, parties, inspect, refresh}
+use Rattle.tables.specs.Lists.{Change, editOutcome, run}
+use Rattle.tables.specs.Books.{Request, Call, answerTo, after, Agree}
+use Rattle.tables.specs.Lists.Change.{addRule, takeRule, addLink, takeLink}
+use Rattle.tables.specs.Books.Request.{openBook, edit, editAll, find, parties, inspect, refresh}
 use Rattle.tables.proofs.CallLaws.{check-given, check-holds, find-keeps, parties-keeps, inspect-keeps}
 use Rattle.tables.proofs.DisputeLaws.{length-disputes, disputes-at}
 use Rattle.tables.proofs.EditLaws.{passed, changed-bytes, added-acyclic, taken-acyclic}
+use Rattle.tables.proofs.ListLaws.{run-keeps, list-keeps}
 use Rattle.tables.proofs.ShapeLaws.{sized-facts, facts-sized, shape-sized, zeros-lengths}
 use Rattle.tables.proofs.SoundLaws.{Sound, means-sound, bytes-mean, free-means, length-entriesOf}
 use Rattle.tables.proofs.TableLaws.{length-tallied}
@@ -68,6 +70,10 @@ module _ {n m : ℕ} {t : Tables} (s : Consistent n m t) where
 
   pub consistent-sound : sound n m t ≡ true
   consistent-sound = means-sound n m t (shape-sized n m t (s .lengths) .entries-size) (s .right)
+
+-- tables that pass the checks of shape and soundness
+pub tested-consistent : (n m : ℕ) (t : Tables) → shaped n m t ≡ true → sound n m t ≡ true → Consistent n m t
+tested-consistent n m t fits is-sound = let s = passed n m t fits is-sound in record { lengths = s .lengths; right = s .before }
 
 -- ---- an empty book is such a one
 
@@ -166,7 +172,7 @@ module _ (n m : ℕ) (t : Tables) (s : Consistent n m t) where
   link-consistent n′ m′ by c p byte small hc hp fits is-sound acyclic =
       accepted-consistent n′ m′ by _ _ fits (length-set (t .links) _ _) refl (changed-bytes n′ m′ t (passed n′ m′ t fits is-sound) c p hc hp byte small) acyclic
 
-  edit-consistent : (n′ m′ by : ℕ) (e : Edit) → Stays (editOutcome n′ m′ t by e .tables)
+  pub edit-consistent : (n′ m′ by : ℕ) (e : Change) → Stays (editOutcome n′ m′ t by e .tables)
   unfolding editOutcome calls.addRule calls.takeRule calls.addLink calls.takeLink
   edit-consistent n′ m′ by (addRule k j h) =
       check-holds 1 t _ Stays _ s λ fits. check-holds 13 t _ Stays _ s λ _. check-holds 2 t _ Stays _ s λ _. check-holds 3 t _ Stays _ s λ _.
@@ -185,28 +191,28 @@ module _ (n m : ℕ) (t : Tables) (s : Consistent n m t) where
       let (hc, hp) = both-below within in
       link-consistent n′ m′ by c p 0 (omega arith) hc hp fits is-sound (taken-acyclic n′ m′ t (passed n′ m′ t fits is-sound) c p hc hp)
 
-  request-consistent : (n′ m′ : ℕ) (r : Request) → Stays (answerTo n′ m′ t r .tables)
+module _ (n m : ℕ) (t : Tables) (s : Consistent n m t) where
+  abbrev Kept : Tables → Type 0
+  Kept = Consistent n m
+
+  request-consistent : (n′ m′ : ℕ) (r : Request) → Kept (answerTo n′ m′ t r .tables)
   unfolding answerTo calls.openBook calls.refresh
-  request-consistent n′ m′ openBook = check-holds 1 t _ Stays _ s λ fits.
-      let (n-same, m-same) = same-size n′ m′ fits in
+  request-consistent n′ m′ openBook = check-holds 1 t _ Kept _ s λ fits.
+      let (n-same, m-same) = same-size n m t s n′ m′ fits in
       rw (n-same, m-same) (zeros-consistent n m t (s .lengths))
-  request-consistent n′ m′ (edit by e) = edit-consistent n′ m′ by e
+  request-consistent n′ m′ (edit by e) = edit-consistent n m t s n′ m′ by e
+  request-consistent n′ m′ (editAll by es) = list-keeps n′ m′ t by Kept (λ u e s′. edit-consistent n m u s′ n′ m′ by e) s es
   request-consistent n′ m′ (find k j) = rw (find-keeps n′ m′ t k j) s
   request-consistent n′ m′ (parties k j) = rw (parties-keeps n′ m′ t k j) s
   request-consistent n′ m′ inspect = rw (inspect-keeps n′ m′ t) s
-  request-consistent n′ m′ refresh = check-holds 1 t _ Stays _ s λ fits. check-holds 5 t _ Stays _ s λ right.
+  request-consistent n′ m′ refresh = check-holds 1 t _ Kept _ s λ fits. check-holds 5 t _ Kept _ s λ right.
       let (bytes, free) = and-eq-true-iff (bytes-right n′ (t .links)) _ .0 right in
-      worked-anew n′ m′ _ _ _ fits refl refl refl (bytes-mean n′ (t .links) bytes) (free-means n′ (upOf n′ (t .links)) free)
+      worked-anew n m t s n′ m′ _ _ _ fits refl refl refl (bytes-mean n′ (t .links) bytes) (free-means n′ (upOf n′ (t .links)) free)
 
 pub call-consistent : (n m : ℕ) (call : Call) (t : Tables) → Consistent n m t → Consistent n m (after call t)
 call-consistent n m call t s = request-consistent n m t s (call .n) (call .m) (call .request)
 
 -- ---- lists
-
-pub run-keeps : {C S : Type 0} (turn : C → S → S) (P : S → Type 0) → ((c : C) (s : S) → P s → P (turn c s)) → (cs : List C) (s : S) → P s → P (run turn cs s)
-unfolding run
-run-keeps turn P keeps [] s p = p
-run-keeps turn P keeps (c ∷ cs) s p = run-keeps turn P keeps cs (turn c s) (keeps c s p)
 
 run-consistent : (n m : ℕ) (cs : List Call) (t : Tables) → Consistent n m t → Consistent n m (run after cs t)
 run-consistent n m = run-keeps after (Consistent n m) (call-consistent n m)

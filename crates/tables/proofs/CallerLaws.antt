@@ -3,37 +3,45 @@
 --     caller-known      an edit that names a caller is never refused by 13
 --     others-kept       an edit moves no other caller's number of the tally, accepted or refused
 --     tally-kept        a call that names no caller and is no open leaves the tally
+--     list-caller-refused, list-others-kept    the first and the third of these, of a list of edits
 -- Assumes nothing.
-use mathlib.Core.Path.{_≡_, refl, ap}
+use mathlib.Core.Path.{_≡_, refl, ap, _∙_}
 use mathlib.Core.Bool.{Bool, true, false}
 use mathlib.Core.List.{List}
 use mathlib.Core.Logic.{_≢_}
 use Prim.Native.Nat.{ℕ, _≤_, _<_}
-use borrow.Author.Tests.{eqb-false, lt-ltb, le-ltb}
+use borrow.Author.Tests.{eqb-false, lt-ltb, le-leb, le-ltb}
 use lib.Dec.{eqb, ltb}
-use lib.ListN.{getD}
+use lib.ListN.{length, getD}
 use lib.Seq.{getD-set-other}
+use Rattle.tables.specs.declared.Edit.{Edit}
 use Rattle.tables.specs.Caller.{callers}
 use Rattle.tables.specs.Reply.{refused}
 use Rattle.tables.specs.Tables.{Tables, shaped, tallied}
 use Rattle.tables.specs.Calls as calls
 use Rattle.tables.specs.Calls.{Outcome, leaves, check, byCaller}
-use Rattle.tables.specs.Books.{Edit, Request, editOutcome, answerTo}
-use Rattle.tables.specs.Books.Edit.{addRule, takeRule, addLink, takeLink}
-use Rattle.tables.specs.Books.Request.{openBook, edit, find, parties, inspect, refresh}
+use Rattle.tables.specs.Lists.{Change, editOutcome, beginList, makeList}
+use Rattle.tables.specs.Books.{Request, answerTo}
+use Rattle.tables.specs.Lists.Change.{addRule, takeRule, addLink, takeLink}
+use Rattle.tables.specs.Books.Request.{openBook, edit, editAll, find, parties, inspect, refresh}
 use Rattle.tables.proofs.CallLaws.{given-not-refused, check-cases, check-holds, find-keeps, parties-keeps, inspect-keeps}
+use Rattle.tables.proofs.ListLaws.{run-stays, list-keeps}
 
 module _ (n m : ℕ) (t : Tables) (caller : ℕ) where
   none-such : {A : Type 0} (next : Outcome A) → shaped n m t ≡ true → callers ≤ caller → byCaller n m t caller next ≡ leaves (refused 13) t
   unfolding check
   none-such next fits past = rw (fits, le-ltb caller callers past) refl
 
-  pub caller-refused : (e : Edit) → shaped n m t ≡ true → callers ≤ caller → editOutcome n m t caller e ≡ leaves (refused 13) t
+  pub caller-refused : (e : Change) → shaped n m t ≡ true → callers ≤ caller → editOutcome n m t caller e ≡ leaves (refused 13) t
   unfolding editOutcome calls.addRule calls.takeRule calls.addLink calls.takeLink
   caller-refused (addRule k j h) = none-such _
   caller-refused (takeRule k j) = none-such _
   caller-refused (addLink c p) = none-such _
   caller-refused (takeLink c p) = none-such _
+
+  pub list-caller-refused : (es : List Edit) → shaped n m t ≡ true → length es ≤ 4096 → callers ≤ caller → makeList n m t caller es ≡ leaves (refused 13) t
+  unfolding makeList beginList check
+  list-caller-refused es fits short past = rw (fits, le-leb (length es) 4096 short, le-ltb caller callers past) (run-stays n m caller (refused 13) (λ e u. refl) es t)
 
   -- ---- never by 13
 
@@ -52,7 +60,7 @@ module _ (n m : ℕ) (t : Tables) (caller : ℕ) where
   unfolding calls.accepted
   accepted-not links rules = given-not-refused _ 13
 
-  pub caller-known : (e : Edit) → caller < callers → editOutcome n m t caller e .reply ≢ refused 13
+  pub caller-known : (e : Change) → caller < callers → editOutcome n m t caller e .reply ≢ refused 13
   unfolding editOutcome calls.addRule calls.takeRule calls.addLink calls.takeLink
   caller-known (addRule k j h) low = known _ low (past 2 _ _ refl (past 3 _ _ refl (past 4 _ _ refl (past 5 _ _ refl (accepted-not _ _)))))
   caller-known (takeRule k j) low = known _ low (past 2 _ _ refl (past 3 _ _ refl (past 5 _ _ refl (past 6 _ _ refl (accepted-not _ _)))))
@@ -70,7 +78,7 @@ module _ (n m : ℕ) (t : Tables) where
     unfolding calls.accepted tallied
     accepted-same links rules = getD-set-other (t .tally) by c _ 0 other
 
-    pub others-kept : (e : Edit) → Same (editOutcome n m t by e .tables)
+    pub others-kept : (e : Change) → Same (editOutcome n m t by e .tables)
     unfolding editOutcome calls.addRule calls.takeRule calls.addLink calls.takeLink
     others-kept (addRule k j h) =
         check-holds 1 t _ Same _ refl λ _. check-holds 13 t _ Same _ refl λ _. check-holds 2 t _ Same _ refl λ _. check-holds 3 t _ Same _ refl λ _.
@@ -88,11 +96,16 @@ module _ (n m : ℕ) (t : Tables) where
   abbrev Kept : Tables → Type 0
   Kept t′ = t′ .tally ≡ t .tally
 
-  pub tally-kept : (r : Request) → r ≢ openBook → ((by : ℕ) (e : Edit) → r ≢ edit by e) → Kept (answerTo n m t r .tables)
+  pub tally-kept : (r : Request) → r ≢ openBook → ((by : ℕ) (e : Change) → r ≢ edit by e) → ((by : ℕ) (es : List Edit) → r ≢ editAll by es)
+      → Kept (answerTo n m t r .tables)
   unfolding answerTo calls.refresh
-  tally-kept openBook no-open no-edit = absurd (no-open refl)
-  tally-kept (edit by e) no-open no-edit = absurd (no-edit by e refl)
-  tally-kept (find k j) no-open no-edit = ap (λ (t′ : Tables). t′ .tally) (find-keeps n m t k j)
-  tally-kept (parties k j) no-open no-edit = ap (λ (t′ : Tables). t′ .tally) (parties-keeps n m t k j)
-  tally-kept inspect no-open no-edit = ap (λ (t′ : Tables). t′ .tally) (inspect-keeps n m t)
-  tally-kept refresh no-open no-edit = check-holds 1 t _ Kept _ refl λ _. check-holds 5 t _ Kept _ refl λ _. refl
+  tally-kept openBook no-open no-edit no-list = absurd (no-open refl)
+  tally-kept (edit by e) no-open no-edit no-list = absurd (no-edit by e refl)
+  tally-kept (editAll by es) no-open no-edit no-list = absurd (no-list by es refl)
+  tally-kept (find k j) no-open no-edit no-list = ap (λ (t′ : Tables). t′ .tally) (find-keeps n m t k j)
+  tally-kept (parties k j) no-open no-edit no-list = ap (λ (t′ : Tables). t′ .tally) (parties-keeps n m t k j)
+  tally-kept inspect no-open no-edit no-list = ap (λ (t′ : Tables). t′ .tally) (inspect-keeps n m t)
+  tally-kept refresh no-open no-edit no-list = check-holds 1 t _ Kept _ refl λ _. check-holds 5 t _ Kept _ refl λ _. refl
+
+pub list-others-kept : (n m : ℕ) (t : Tables) (by c : ℕ) → c ≢ by → (es : List Edit) → getD (makeList n m t by es .tables .tally) c 0 ≡ getD (t .tally) c 0
+list-others-kept n m t by c other = list-keeps n m t by (λ u. getD (u .tally) c 0 ≡ getD (t .tally) c 0) (λ u e so-far. others-kept n m u by c other e ∙ so-far) refl

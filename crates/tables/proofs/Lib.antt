@@ -8,6 +8,8 @@ pub mod DisputeLaws
 pub mod EditLaws
 pub mod EntryLaws
 pub mod FindingLaws
+pub mod ListLaws
+pub mod ListStepLaws
 pub mod NeverLaws
 pub mod PartiesLaws
 pub mod ShapeLaws

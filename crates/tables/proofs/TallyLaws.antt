@@ -11,18 +11,21 @@ use native.Mathlib.Decide.{decLt, ℕ-discrete}
 use native.Mathlib.Omega.{arith}
 use borrow.Author.Tests.{eq-eqb, ne-eqb, ltb-true}
 use lib.Dec.{ltb}
-use lib.ListN.{length, getD, set}
+use lib.ListN.{getD, set}
 use lib.Seq.{getD-set-same, getD-set-other}
+use Rattle.tables.specs.declared.Edit.{Edit}
 use Rattle.tables.specs.Caller.{callers}
-use Rattle.tables.specs.Reply.{given}
+use Rattle.tables.specs.Reply.{Reply, refused, given, Listing, whole}
 use Rattle.tables.specs.Tables.{Tables, saturated, tallied}
 use Rattle.tables.specs.Calls as calls
-use Rattle.tables.specs.Calls.{Outcome}
-use Rattle.tables.specs.Books.{Edit, Request, Call, editOutcome, answerTo, after, run, isGiven, accepts, withCall, countedBy, editsSince}
-use Rattle.tables.specs.Books.Edit.{addRule, takeRule, addLink, takeLink}
-use Rattle.tables.specs.Books.Request.{openBook, edit, find, parties, inspect, refresh}
-use Rattle.tables.proofs.BookLaws.{zeros-at, Consistent, opened-consistent, call-consistent}
-use Rattle.tables.proofs.CallLaws.{check-cases, check-given, find-keeps, parties-keeps}
+use Rattle.tables.specs.Calls.{Outcome, leaves, check}
+use Rattle.tables.specs.Lists.{Change, editOutcome, run, counting, makeList}
+use Rattle.tables.specs.Books.{Request, Call, Answer, answerTo, after, opening, editing, listing, editsMade, withEdits, countedBy, editsSince}
+use Rattle.tables.specs.Lists.Change.{addRule, takeRule, addLink, takeLink}
+use Rattle.tables.specs.Books.Request.{openBook, edit, editAll, find, parties, inspect, refresh}
+use Rattle.tables.proofs.BookLaws.{zeros-at, Consistent, edit-consistent, opened-consistent, call-consistent}
+use Rattle.tables.proofs.CallLaws.{check-cases, check-given, find-keeps, parties-keeps, inspect-keeps}
+use Rattle.tables.proofs.ListLaws.{run-cases, list-cases}
 use Rattle.tables.proofs.TableLaws.{saturated-next, saturated-full}
 
 abbrev most : ℕ
@@ -31,73 +34,113 @@ most = 4294967295
 saturated-min : (x count : ℕ) → x ≡ min most count → saturated x ≡ min most (count + 1)
 saturated-min x count e = by-cases (decLt x most) (λ h. omega (arith, saturated-next x h)) (λ h. omega (arith, saturated-full x (omega arith)))
 
+-- ---- edits that someone made
+
+-- by the caller, or by another
+abbrev more-by : (same : Bool) (made count : ℕ) → ℕ
+more-by same made count = elim same [ true ↦ count + made | false ↦ count ]
+
+module _ (caller by : ℕ) where
+  others-uncounted : by ≢ caller → (made count : ℕ) → withEdits caller by made count ≡ count
+  others-uncounted other made count = ap (λ (same : Bool). more-by same made count) (ne-eqb by caller other)
+
+  own-counted : by ≡ caller → (made count : ℕ) → withEdits caller by made count ≡ count + made
+  own-counted same made count = ap (λ (same : Bool). more-by same made count) (eq-eqb by caller same)
+
+  -- none, and some and then some more
+  edits-none : (count : ℕ) → withEdits caller by 0 count ≡ count
+  edits-none count = by-cases (ℕ-discrete by caller) (λ same. omega (arith, own-counted same 0 count)) (λ other. others-uncounted other 0 count)
+
+  edits-add : (made more count : ℕ) → withEdits caller by more (withEdits caller by made count) ≡ withEdits caller by (made + more) count
+  edits-add made more count = by-cases (ℕ-discrete by caller)
+      (λ same. omega (arith, own-counted same more (withEdits caller by made count), own-counted same made count, own-counted same (made + more) count))
+      (λ other. others-uncounted other more _ ∙ others-uncounted other made count ∙ sym (others-uncounted other (made + more) count))
+
 -- ---- one call
 
-module _ (t : Tables) (whole : length (t .tally) ≡ callers) (caller count : ℕ) (so-far : getD (t .tally) caller 0 ≡ min most count) where
-  -- the caller's number after a call, by its request and whether it was accepted
-  abbrev Counts : Request → Bool → Tables → Type 0
-  Counts r accepted left = getD (left .tally) caller 0 ≡ min most (countedBy caller accepted r count)
+module _ (n m : ℕ) (t : Tables) (s : Consistent n m t) (caller count : ℕ) (so-far : getD (t .tally) caller 0 ≡ min most count) where
+  module _ (by : ℕ) where
+    -- the caller's number after an edit
+    abbrev EditCounts : Outcome ℕ → Type 0
+    EditCounts o = getD (o .tables .tally) caller 0 ≡ min most (withEdits caller by (editsMade (editing (o .reply))) count)
 
-  abbrev CountsIn : Request → {A : Type 0} → Outcome A → Type 0
-  CountsIn r o = Counts r (isGiven (o .reply)) (o .tables)
+    none-more : getD (t .tally) caller 0 ≡ min most (withEdits caller by 0 count)
+    none-more = so-far ∙ ap (min most) (sym (edits-none caller by count))
 
-  others-uncounted : (by : ℕ) (e : Edit) → by ≢ caller → withCall caller (edit by e) count ≡ count
-  others-uncounted by e other = ap (λ (same : Bool). elim same [ true ↦ count + 1 | false ↦ count ]) (ne-eqb by caller other)
+    one-more : (n′ m′ : ℕ) (links rules : List ℕ) → ltb by callers ≡ true → EditCounts (calls.accepted n′ m′ t by links rules)
+    unfolding calls.accepted tallied
+    one-more n′ m′ links rules known = by-cases (ℕ-discrete by caller)
+        (λ same.
+        ap (λ (c : ℕ). getD (set (t .tally) c (saturated (getD (t .tally) c 0))) caller 0) same
+        ∙ getD-set-same (t .tally) caller _ 0 (omega (arith, ltb-true by callers known, s .lengths .tally-length))
+        ∙ saturated-min (getD (t .tally) caller 0) count so-far ∙ ap (min most) (sym (own-counted caller by same 1 count)))
+        (λ other. getD-set-other (t .tally) by caller _ 0 (λ same. other (sym same)) ∙ so-far ∙ ap (min most) (sym (others-uncounted caller by other 1 count)))
 
-  own-counted : (by : ℕ) (e : Edit) → by ≡ caller → withCall caller (edit by e) count ≡ count + 1
-  own-counted by e same = ap (λ (same : Bool). elim same [ true ↦ count + 1 | false ↦ count ]) (eq-eqb by caller same)
+    -- a check, which counts none where it refuses
+    past : (number : ℕ) (next : Outcome ℕ) (b : Bool) → (b ≡ true → EditCounts next) → EditCounts (check number b t next)
+    past number next b rest = check-cases number t next EditCounts b none-more rest
 
-  one-more : (n m by : ℕ) (e : Edit) (links rules : List ℕ) → ltb by callers ≡ true → CountsIn (edit by e) (calls.accepted n m t by links rules)
-  unfolding calls.accepted tallied
-  one-more n m by e links rules known = by-cases (ℕ-discrete by caller)
-      (λ same.
-      ap (λ (c : ℕ). getD (set (t .tally) c (saturated (getD (t .tally) c 0))) caller 0) same
-      ∙ getD-set-same (t .tally) caller _ 0 (omega (arith, ltb-true by callers known))
-      ∙ saturated-min (getD (t .tally) caller 0) count so-far ∙ ap (min most) (sym (own-counted by e same)))
-      (λ other. getD-set-other (t .tally) by caller _ 0 (λ same. other (sym same)) ∙ so-far ∙ ap (min most) (sym (others-uncounted by e other)))
+    edit-counts : (n′ m′ : ℕ) (e : Change) → EditCounts (editOutcome n′ m′ t by e)
+    unfolding editOutcome calls.addRule calls.takeRule calls.addLink calls.takeLink
+    edit-counts n′ m′ (addRule k j h) =
+        past 1 _ _ λ _. past 13 _ _ λ known. past 2 _ _ λ _. past 3 _ _ λ _. past 4 _ _ λ _. past 5 _ _ λ _. one-more n′ m′ _ _ known
+    edit-counts n′ m′ (takeRule k j) =
+        past 1 _ _ λ _. past 13 _ _ λ known. past 2 _ _ λ _. past 3 _ _ λ _. past 5 _ _ λ _. past 6 _ _ λ _. one-more n′ m′ _ _ known
+    edit-counts n′ m′ (addLink c p) =
+        past 1 _ _ λ _. past 13 _ _ λ known. past 2 _ _ λ _. past 5 _ _ λ _. past 7 _ _ λ _. past 9 _ _ λ _. one-more n′ m′ _ _ known
+    edit-counts n′ m′ (takeLink c p) =
+        past 1 _ _ λ _. past 13 _ _ λ known. past 2 _ _ λ _. past 5 _ _ λ _. past 8 _ _ λ _. one-more n′ m′ _ _ known
 
-  edit-counts : (n m by : ℕ) (e : Edit) → CountsIn (edit by e) (editOutcome n m t by e)
-  unfolding editOutcome calls.addRule calls.takeRule calls.addLink calls.takeLink
-  edit-counts n m by (addRule k j h) =
-      let P : Outcome ℕ → Type 0 = CountsIn (edit by (addRule k j h)) in
-      check-cases 1 t _ P _ so-far λ _. check-cases 13 t _ P _ so-far λ known. check-cases 2 t _ P _ so-far λ _. check-cases 3 t _ P _ so-far λ _.
-      check-cases 4 t _ P _ so-far λ _. check-cases 5 t _ P _ so-far λ _. one-more n m by _ _ _ known
-  edit-counts n m by (takeRule k j) =
-      let P : Outcome ℕ → Type 0 = CountsIn (edit by (takeRule k j)) in
-      check-cases 1 t _ P _ so-far λ _. check-cases 13 t _ P _ so-far λ known. check-cases 2 t _ P _ so-far λ _. check-cases 3 t _ P _ so-far λ _.
-      check-cases 5 t _ P _ so-far λ _. check-cases 6 t _ P _ so-far λ _. one-more n m by _ _ _ known
-  edit-counts n m by (addLink c p) =
-      let P : Outcome ℕ → Type 0 = CountsIn (edit by (addLink c p)) in
-      check-cases 1 t _ P _ so-far λ _. check-cases 13 t _ P _ so-far λ known. check-cases 2 t _ P _ so-far λ _. check-cases 5 t _ P _ so-far λ _.
-      check-cases 7 t _ P _ so-far λ _. check-cases 9 t _ P _ so-far λ _. one-more n m by _ _ _ known
-  edit-counts n m by (takeLink c p) =
-      let P : Outcome ℕ → Type 0 = CountsIn (edit by (takeLink c p)) in
-      check-cases 1 t _ P _ so-far λ _. check-cases 13 t _ P _ so-far λ known. check-cases 2 t _ P _ so-far λ _. check-cases 5 t _ P _ so-far λ _.
-      check-cases 8 t _ P _ so-far λ _. one-more n m by _ _ _ known
+-- ---- a list of edits
 
-  -- a call that is no edit and no open
-  uncounted : (r : Request) (accepted : Bool) → withCall caller r count ≡ count → Counts r accepted t
-  uncounted r true same = so-far ∙ ap (min most) (sym same)
-  uncounted r false same = so-far
+-- an edit that is counted in is one made more, a refused one none
+made-more : (accepted changed : ℕ) (reply : Reply ℕ) → accepted + editsMade (editing reply) ≡ editsMade (listing (given (counting accepted changed reply)))
+made-more accepted changed (given count) = refl
+made-more accepted changed (refused number) = omega arith
 
-  request-counts : (n m : ℕ) (r : Request) → Counts r (accepts (answerTo n m t r .answer)) (answerTo n m t r .tables)
+module _ (n m : ℕ) (t : Tables) (s : Consistent n m t) (caller count : ℕ) (so-far : getD (t .tally) caller 0 ≡ min most count) where
+  module _ (by n′ m′ : ℕ) where
+    -- where a list stands: the edits that its reply says were made are counted
+    abbrev ListCounts : Outcome Listing → Type 0
+    ListCounts o = Consistent n m (o .tables) × (getD (o .tables .tally) caller 0 ≡ min most (withEdits caller by (editsMade (listing (o .reply))) count))
+
+    list-counts : (es : List Edit) → ListCounts (makeList n′ m′ t by es)
+    list-counts es =
+        let begun : ListCounts (leaves (given (whole 0 0)) t) = (s, none-more n m t s caller count so-far by) in
+        list-cases n′ m′ t by es ListCounts (λ number. begun) λ _.
+        run-cases n′ m′ by ListCounts
+        (λ accepted changed u e (s′, so-far′). (
+          edit-consistent n m u s′ n′ m′ by e,
+          edit-counts n m u s′ caller (withEdits caller by accepted count) so-far′ by n′ m′ e
+              ∙ ap (min most) (edits-add caller by accepted (editsMade (editing (editOutcome n′ m′ u by e .reply))) count
+              ∙ ap (λ (made : ℕ). withEdits caller by made count) (made-more accepted changed (editOutcome n′ m′ u by e .reply))),
+        ))
+        (λ accepted changed u so-far′. so-far′) es _ begun
+
+  -- the caller's number after a call
+  abbrev Counts : Request → Answer → Tables → Type 0
+  Counts r answer left = getD (left .tally) caller 0 ≡ min most (countedBy caller r answer count)
+
+  request-counts : (n′ m′ : ℕ) (r : Request) → Counts r (answerTo n′ m′ t r .answer) (answerTo n′ m′ t r .tables)
   unfolding answerTo calls.openBook calls.inspect calls.refresh
-  request-counts n m openBook = check-cases 1 t _ (CountsIn openBook) _ so-far λ _. zeros-at callers caller
-  request-counts n m (edit by e) = edit-counts n m by e
-  request-counts n m (find k j) = rw (find-keeps n m t k j) (uncounted (find k j) (isGiven (calls.find n m t k j .reply)) refl)
-  request-counts n m (parties k j) = rw (parties-keeps n m t k j) (uncounted (parties k j) (isGiven (calls.parties n m t k j .reply)) refl)
-  request-counts n m inspect = check-cases 1 t _ (CountsIn inspect) _ so-far λ _. so-far
-  request-counts n m refresh = check-cases 1 t _ (CountsIn refresh) _ so-far λ _. check-cases 5 t _ (CountsIn refresh) _ so-far λ _. so-far
+  request-counts n′ m′ openBook = check-cases 1 t _ (λ o. Counts openBook (opening (o .reply)) (o .tables)) _ so-far λ _. zeros-at callers caller
+  request-counts n′ m′ (edit by e) = edit-counts n m t s caller count so-far by n′ m′ e
+  request-counts n′ m′ (editAll by es) = list-counts by n′ m′ es .1
+  request-counts n′ m′ (find k j) = rw (find-keeps n′ m′ t k j) so-far
+  request-counts n′ m′ (parties k j) = rw (parties-keeps n′ m′ t k j) so-far
+  request-counts n′ m′ inspect = rw (inspect-keeps n′ m′ t) so-far
+  request-counts n′ m′ refresh =
+      let P : Outcome ℕ → Type 0 = λ o. Counts refresh (editing (o .reply)) (o .tables) in
+      check-cases 1 t _ P _ so-far λ _. check-cases 5 t _ P _ so-far λ _. so-far
 
--- ---- lists
+-- ---- lists of calls
 
 run-counts : (n m : ℕ) (cs : List Call) (t : Tables) (caller count : ℕ) → Consistent n m t → getD (t .tally) caller 0 ≡ min most count
     → getD (run after cs t .tally) caller 0 ≡ min most (editsSince caller count cs t)
 unfolding run editsSince
 run-counts n m [] t caller count s so-far = so-far
 run-counts n m (call ∷ cs) t caller count s so-far =
-    run-counts n m cs (after call t) caller _ (call-consistent n m call t s)
-    (request-counts t (omega (arith, s .lengths .tally-length)) caller count so-far (call .n) (call .m) (call .request))
+    run-counts n m cs (after call t) caller _ (call-consistent n m call t s) (request-counts n m t s caller count so-far (call .n) (call .m) (call .request))
 
 opened-tally : (n m : ℕ) (t : Tables) → calls.openBook n m t .reply ≡ given tt → (caller : ℕ) → getD (calls.openBook n m t .tables .tally) caller 0 ≡ 0
 unfolding calls.openBook

@@ -4,6 +4,8 @@ pub mod Calls
 pub mod Controller
 pub mod Edit
 pub mod Entry
+pub mod ListSteps
+pub mod Lists
 pub mod Reply
 pub mod Step
 pub mod Tables

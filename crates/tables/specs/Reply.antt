@@ -1,8 +1,8 @@
 -- What a call answers, in the numbers and values of docs/SCOPE.md, and which case of the code's enums stands for which.
 --     Reply             a refusal with its number, or what the call gives
---     Finding           what find gives; Fault: what inspect gives; TwoKinds: what parties gives
+--     Finding           what find gives; Fault: what inspect gives; TwoKinds: what parties gives; Listing: what a list of edits gives
 --     refusalNumber     the number of each refusal
---     opened, edited, found, paired, inspected    the number and values of each case of an answer: the promises use these
+--     opened, edited, found, paired, inspected, carried    the number and values of each case of an answer: the promises use these
 -- Assumes nothing.
 use Prim.Native.Nat.{ℕ}
 use Rattle.tables.specs.declared.Refusal.{Refusal}
@@ -11,6 +11,7 @@ use Rattle.tables.specs.declared.Edited.{Edited}
 use Rattle.tables.specs.declared.Found.{Found}
 use Rattle.tables.specs.declared.Pair.{Pair}
 use Rattle.tables.specs.declared.Inspected.{Inspected}
+use Rattle.tables.specs.declared.Carried.{Carried}
 
 pub data Reply (A : Type 0) : Type 0 where
   refused : (number : ℕ) → Reply A
@@ -35,6 +36,11 @@ pub record TwoKinds : Type 0 where
   pub one : ℕ
   pub other : ℕ
 
+-- how many edits of a list were accepted, and the sum of their counts: all of them, or up to one that is refused by a number
+pub data Listing : Type 0 where
+  whole : (accepted changed : ℕ) → Listing
+  stopped : (accepted changed number : ℕ) → Listing
+
 abbrev pub refusalNumber : Refusal → ℕ
 refusalNumber Refusal.Shape = 1
 refusalNumber Refusal.Kind = 2
@@ -49,6 +55,7 @@ refusalNumber Refusal.BadEntry = 10
 refusalNumber Refusal.NoDispute = 11
 refusalNumber Refusal.BadForm = 12
 refusalNumber Refusal.Caller = 13
+refusalNumber Refusal.NoEdit = 19
 
 abbrev pub opened : Opened → Reply (Unit {0})
 opened Opened.Done = given tt
@@ -75,3 +82,8 @@ inspected (Inspected.AboveItself k) = given (above-itself (k .0))
 inspected (Inspected.WrongEntry place) = given (wrong-entry place)
 inspected (Inspected.WrongCount j) = given (wrong-count (j .0))
 inspected (Inspected.Refused why) = refused (refusalNumber why)
+
+abbrev pub carried : Carried → Reply Listing
+carried (Carried.Whole accepted changed) = given (whole accepted changed)
+carried (Carried.Stopped accepted changed why) = given (stopped accepted changed (refusalNumber why))
+carried (Carried.Refused why) = refused (refusalNumber why)

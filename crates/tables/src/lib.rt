@@ -32,6 +32,7 @@ pub enum Refusal {
     NoDispute,
     BadForm,
     Caller,
+    NoEdit,
 }
 
 // What open answers.
@@ -70,18 +71,36 @@ pub enum Inspected {
     Refused(Refusal),
 }
 
+// What a list of edits answers: how many were accepted and the sum of their counts, of the whole list or up to the edit that is
+// refused. A sum of 4,096 counts of at most 8,192 each has 26 bits.
+pub enum Carried {
+    Whole(u16, u32),
+    Stopped(u16, u32, Refusal),
+    Refused(Refusal),
+}
+
 // One of the four edits, with any arguments.
-pub enum Edit {
+pub enum Change {
     AddRule(Kind, Mark, u16),
     TakeRule(Kind, Mark),
     AddLink(Kind, Kind),
     TakeLink(Kind, Kind),
 }
 
-// What is asked of a book: one of the nine calls, with any arguments. An edit names its caller.
+// An edit as a record of a list, with any numbers. What it is: 1 to add a rule, 2 to take one, 3 to add a link, 4 to take one. The
+// kind is that of the rule, or the child; the other is the mark, or the parent. Only an added rule has a handling.
+#[repr(C)]
+pub struct Edit {
+    pub what: u16,
+    pub kind: u16,
+    pub other: u16,
+    pub handling: u16,
+}
+
+// What is asked of a book by a value: one of the nine calls that lend no list, with any arguments. An edit names its caller.
 pub enum Request {
     Open,
-    Edit(Caller, Edit),
+    Edit(Caller, Change),
     Find(Kind, Mark),
     Parties(Kind, Mark),
     Inspect,
@@ -139,6 +158,7 @@ impl Refusal {
             Refusal::NoDispute => 11,
             Refusal::BadForm => 12,
             Refusal::Caller => 13,
+            Refusal::NoEdit => 19,
         }
     }
 }

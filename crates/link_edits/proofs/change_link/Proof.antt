@@ -3,11 +3,10 @@ use mathlib.Core.Path.{_≡_, sym, _∙_}
 use denote.Ref.{now}
 use borrow.Author.Needs.{needs}
 use Rattle.inheritance.specs.Checked.{kindBelow}
-use Rattle.asking.specs.declared.CallerAsked.{CallerAsked}
 use Rattle.asking.specs.declared.LinkAsked.{LinkAsked}
-use Rattle.asking.specs.Ask.{askedLink, checkedCaller}
+use Rattle.asking.specs.Ask.{askedLink}
+use Rattle.asking.proofs.AskLaws.{AskedBy, asked-between, asked-by}
 use Rattle.tables.specs.Tables.{Tables, lent}
-use Rattle.asking.proofs.AskLaws.{asked-between, asked-by}
 use Rattle.link_edits.proofs.LinkEditLaws.{first-refused, link-refused, link-passed}
 use Rattle.link_edits.proofs.change_link.Statement.{statement}
 use Rattle.link_edits.proofs.change_link.Tie as tie
@@ -22,9 +21,8 @@ book c = let a = start c .args in lent (now (a .links)) (now (a .rules)) (now (a
 abbrev called : tie.After-ask-link → tie.After-ask-caller
 called c = c .before .before .before .before
 
-is-by : (c : tie.After-ask-link) → let a = start (called c) .args in
-    checkedCaller (a .n) (a .m) (book (called c)) (a .caller .0) ≡ CallerAsked.By (c .before .before .by .given .0 .0)
-is-by c = sym (called c .ask-caller .ensures) ∙ c .before .before .by .given .1
+is-by : (c : tie.After-ask-link) → let a = start (called c) .args in AskedBy (a .n) (a .m) (book (called c)) (a .caller .0) (c .before .before .by .given .0 .0)
+is-by c = asked-by _ _ (book (called c)) _ (sym (called c .ask-caller .ensures) ∙ c .before .before .by .given .1)
 
 abbrev asked : tie.After-c → tie.After-ask-link
 asked c = c .before .before
@@ -38,7 +36,7 @@ edit-link-requires c κs =
     let k = c .before .before .before .before .before in
     let x = asked k in
     let a = start (called x) .args in
-    let by = asked-by _ _ (book (called x)) (a .caller .0) (is-by x) in
+    let by = is-by x in
     let at = asked-between (a .n) (a .child .0) (a .parent .0) (is-between k) in
     (by .fits, rw (by .the-caller) (by .caller-below), rw (at .the-child) (at .child-below), rw (at .the-parent) (at .parent-below))
 
@@ -50,14 +48,17 @@ returns c =
 returns-2 : tie.Need-returns-2
 returns-2 c =
     let x = c .before .before .before in
-    link-refused _ _ (book (called x)) _ _ _ (start (called x) .args .adding) (is-by x) (sym (x .ask-link .ensures) ∙ c .before .why2 .given .1)
+    let by = is-by x in
+    link-refused _ _ (book (called x)) _ _ _ (start (called x) .args .adding) (by .fits) (by .caller-below) (sym (x .ask-link .ensures) ∙ c .before .why2 .given .1)
 
 returns-3 : tie.Need-returns-3
 returns-3 c =
     let r = c .before .before .before .before .before .before .before .before in
     let k = r .before .before .before .before .before .before in
     let x = asked k in
-    r .edit-link .ensures ∙ link-passed _ _ (book (called x)) _ _ _ (start (called x) .args .adding) (is-by x) (is-between k)
+    let by = is-by x in
+    r .edit-link .ensures
+    ∙ rw (by .the-caller) (link-passed _ _ (book (called x)) _ _ _ (start (called x) .args .adding) (by .fits) (by .caller-below) (is-between k))
 
 pub change-link-spec : {M : Type 1} → statement M
 change-link-spec =

@@ -9,7 +9,7 @@ use borrow.Author.Needs.{needs}
 use Rattle.inheritance.specs.Above.{one-if}
 use Rattle.tables.specs.Tables.{Tables, lent}
 use Rattle.resettling.proofs.KnownLaws.{has, counts, fits-sized, fits-tally}
-use Rattle.relinking.proofs.RelinkLaws.{link-prepared, link-untouched, link-done}
+use Rattle.relinking.proofs.RelinkLaws.{link-loaded, link-prepared, link-untouched, link-done}
 use Rattle.relinking.proofs.apply_link.Statement.{statement}
 use Rattle.relinking.proofs.apply_link.Tie as tie
 
@@ -35,7 +35,7 @@ relink-requires : tie.Need-relink-requires
 relink-requires c κs =
     let p = start (c .before .before .before .before) .pre .0 in
     let h = has (p .0) in (
-      record { kinds = h .sizes .kinds; marks = h .sizes .marks; rules-size = h .sizes .rules-size; rows-long = p .0 .loaded .long; order-long = p .0 .prepared .arranged .long-order },
+      record { kinds = h .sizes .kinds; marks = h .sizes .marks; rules-size = h .sizes .rules-size; rows-long = p .0 .tracked .loaded .long; order-long = p .0 .tracked .prepared .arranged .long-order },
       p .2,
       p .3,
     )
@@ -66,9 +66,14 @@ returns c =
     let q = placed r in
     let s = start q in
     let p = s .pre .0 in
-    link-done _ _ (book q) _ _ (s .args .adding) (p .0) (p .2) (p .3) (s .pre .1) (r .relink .ensures) (s .args .caller .0)
-    (ap (λ (i : ℕ). set (now (s .args .links)) i (one-if (s .args .adding))) (q .link-place .ensures)) (l .resettle-link .ensures .0) (l .resettle-link .ensures .1)
-    (e .count-edit .ensures)
+    let stored = ap (λ (i : ℕ). set (now (s .args .links)) i (one-if (s .args .adding))) (q .link-place .ensures) in (
+      link-done _ _ (book q) _ _ (s .args .adding) (p .0) (p .2) (p .3) (s .pre .1) (r .relink .ensures) (s .args .caller .0)
+          stored (l .resettle-link .ensures .0) (l .resettle-link .ensures .1) (e .count-edit .ensures),
+      record {
+        loaded = rw (q .link-place .ensures) (link-loaded _ _ (book q) _ _ (s .args .adding) (p .0) (p .2) (p .3) (s .pre .1) (r .relink .ensures));
+        prepared = link-prepared _ _ (book q) _ _ (s .args .adding) (p .0) (p .2) (p .3) (s .pre .1) (r .relink .ensures);
+      },
+    )
 
 pub apply-link-spec : {M : Type 1} → statement M
 apply-link-spec =

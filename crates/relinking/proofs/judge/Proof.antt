@@ -1,10 +1,10 @@
--- `link_edits::judge` meets its contract: the tests that led to a return say which case of `judged` holds. Assumes nothing.
+-- `relinking::judge` meets its contract: the tests that led to a return say which case of `judged` holds. Assumes nothing.
 use mathlib.Core.Path.{_≡_, sym, _∙_}
 use denote.Ref.{now}
 use Rattle.relation.specs.Bit.{bit}
 use borrow.Author.Needs.{needs}
-use Rattle.link_edits.proofs.judge.Statement.{statement}
-use Rattle.link_edits.proofs.judge.Tie as tie
+use Rattle.relinking.proofs.judge.Statement.{statement}
+use Rattle.relinking.proofs.judge.Tie as tie
 
 abbrev start : tie.After-test2 → tie.Start
 start c = c .before .before .before .before
