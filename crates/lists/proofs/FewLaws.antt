@@ -4,18 +4,16 @@
 --     short-begin, short-next   `Short` holds at first, and stays
 --     few-enough                so at each record fewer than 4,096 are accepted
 -- Assumes nothing.
-use mathlib.Core.Path.{_≡_, refl}
-use mathlib.Core.Bool.{Bool, true, false, _&&_}
 use Prim.Native.Nat.{ℕ, _+_, _<_, _≤_}
 use native.Mathlib.Omega.{arith}
 use borrow.Author.Tests.{leb-true}
-use lib.Dec.{leb, ltb}
-use Rattle.tables.specs.Calls.{Outcome, leaves, check}
-use Rattle.tables.specs.Caller.{callers}
+use lib.Dec.{leb}
+use Rattle.tables.specs.Calls.{Outcome, leaves}
 use Rattle.tables.specs.Lists.{mostRecords, beginList, nextEdit, counting, recordOutcome}
 use Rattle.tables.specs.Reply.{Reply, refused, given, Listing, whole, stopped}
-use Rattle.tables.specs.Tables.{Tables, shaped, sound}
+use Rattle.tables.specs.Tables.{Tables, shaped}
 use Rattle.tables.specs.declared.Edit.{Edit}
+use Rattle.tables.proofs.CallLaws.{check-cases}
 use Rattle.tables.proofs.ShapeLaws.{and-iff}
 use Rattle.listing.specs.Ready.{Few}
 
@@ -29,18 +27,13 @@ few-enough i records (given (whole accepted changed)) l few short = omega (arith
 few-enough i records (given (stopped accepted changed number)) l few short = tt
 few-enough i records (refused number) l few short = tt
 
--- what holds of every refusal and of the outcome after a check holds after the check
-after : (P : Reply Listing → Type 0) → ((number : ℕ) → P (refused number)) → (number : ℕ) (b : Bool) (t : Tables) (o : Outcome Listing) → (b ≡ true → P (o .reply))
-    → P (check number b t o .reply)
-unfolding check
-after P none number true t o next = next refl
-after P none number false t o next = none number
-
 module _ (n m caller : ℕ) (t : Tables) where
   begun : (P : Reply Listing → Type 0) → ((number : ℕ) → P (refused number)) → (records : ℕ) → (records ≤ mostRecords → P (given (whole 0 0))) → P (beginList n m t caller records .reply)
   unfolding beginList
-  begun P none records at-first = after P none 1 (shaped n m t && leb records mostRecords) t _ (λ fits. after P none 13 (ltb caller callers) t _ (λ _. after P none 5 (sound n m t) t _
-      (λ _. at-first (leb-true records mostRecords (and-iff (shaped n m t) (leb records mostRecords) .0 fits .1)))))
+  begun P none records at-first =
+      let Q : Outcome Listing → Type 0 = λ o. P (o .reply) in
+      check-cases 1 t _ Q _ (none 1) λ fits. check-cases 13 t _ Q _ (none 13) λ _. check-cases 5 t _ Q _ (none 5) λ _.
+      at-first (leb-true records mostRecords (and-iff (shaped n m t) (leb records mostRecords) .0 fits .1))
 
   pub few-begin : (records : ℕ) → Few 1 (beginList n m t caller records .reply)
   few-begin records = begun (Few 1) (λ _. tt) records (λ _. omega arith)
