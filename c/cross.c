@@ -11,6 +11,10 @@
    Lists of edits are drawn for each book, with every refusal by which they stop, and tried on it in all these states;
    some are as long as a list may be, or longer. They are made in one call, by the single calls one after the other, and
    as this file reads those; on larger tables in the first two ways.
+   A store is drawn for each book: zeros, anything, sound states and those that have each sort of damage, flags of any
+   number. Save and return are tried with it on the book in all these states, and in sequences of all calls that write,
+   whose answers and whose ten tables are compared after each call. From a return on, the calls are made on the state
+   that was saved too, with the store as the return found it, which has to come to the same.
    It fails where a call differs, and where an answer of a call or a sort of damage came up too seldom. */
 
 #include <stdio.h>
@@ -21,6 +25,7 @@
 
 #define MANY(list) (sizeof(list) / sizeof *(list))
 
+/* A book has five tables, and so has a store. */
 enum { KINDS = 6, MARKS = 2, MOST_MARKS = 64, TABLES = 5 };
 
 /* Each table has room for one element more at least, and disputes for as many marks as any book has. There is no
@@ -31,6 +36,13 @@ struct book {
     uint16_t rules[KINDS * MARKS + 2], entries[KINDS * MARKS + 2];
     uint32_t tally[HOUSE_CALLERS + 1];
     uint16_t disputes[MOST_MARKS + 2];
+};
+
+/* The store of a book, with room for one name more. There is no padding here either. */
+struct store {
+    uint8_t flags[HOUSE_NAMES + 2], links[(HOUSE_NAMES + 1) * KINDS * KINDS];
+    uint16_t rules[(HOUSE_NAMES + 1) * KINDS * MARKS], entries[(HOUSE_NAMES + 1) * KINDS * MARKS];
+    uint16_t disputes[(HOUSE_NAMES + 1) * MARKS];
 };
 
 /* ---- chance */
@@ -67,13 +79,17 @@ enum call {
     REFRESH,
     INSPECT,
     PARTIES,
+    SAVE,
+    RETURN,
     CALLS
 };
 
 static int is_edit(enum call call) { return call >= ADD_RULE && call <= TAKE_LINK; }
+static int has_caller(enum call call) { return is_edit(call) || call == RETURN; }
+static int has_store(enum call call) { return call == SAVE || call == RETURN; }
 
-/* Of each call its arguments (k a kind, m a mark, h a handling), after the caller that an edit has, and the refusals
-   that it gives. They leave a 0 in each row, which stands for any other answer. */
+/* Of each call its arguments (k a kind, m a mark, h a handling, s the name of a state), after the caller that an edit
+   and a return have, and the refusals that it gives. They leave a 0 in each row, which stands for any other answer. */
 static const struct {
     const char *name;
     char arguments[4];
@@ -87,6 +103,8 @@ static const struct {
     [REFRESH] = {"refresh", "", {1, 5}},
     [INSPECT] = {"inspect", "", {1}},
     [PARTIES] = {"parties", "km", {1, 2, 3, 5, 11}},
+    [SAVE] = {"save", "s", {1, 14}},
+    [RETURN] = {"return", "s", {1, 13, 14, 15, 5}},
 };
 
 /* The numbers that follow the tables. */
@@ -97,21 +115,33 @@ struct arguments {
 /* None of the first is wrong by itself, on any book; all of the others are. */
 static const struct arguments good = {0, 0, 0, 20}, bad = {65535, 65535, 65535, 0};
 
-/* A size, and tables with their lengths; and the book, if they are those of one. */
+/* A size, and the tables of a book and of a store with their lengths; and the book and the store, if they are those of
+   one. */
 struct lent {
     uint16_t n, m;
     uint8_t *links;
     uint16_t *rules, *entries;
     uint32_t *tally;
     uint16_t *disputes;
-    size_t lengths[TABLES];
+    uint8_t *flags, *saved_links;
+    uint16_t *saved_rules, *saved_entries, *saved_disputes;
+    size_t lengths[2 * TABLES];
     struct book *book;
+    struct store *store;
 };
+
+/* The lengths that a size asks for. */
+#define LENGTHS(n, m)                                                                                                 \
+    {(n) * (n), (n) * (m), (n) * (m), HOUSE_CALLERS, (m), HOUSE_NAMES, HOUSE_NAMES * (n) * (n),                       \
+     HOUSE_NAMES * (n) * (m), HOUSE_NAMES * (n) * (m), HOUSE_NAMES * (m)}
 
 #define LENT_TABLES(t)                                                                                                \
     (t)->links, (t)->lengths[0], (t)->rules, (t)->lengths[1], (t)->entries, (t)->lengths[2], (t)->tally,              \
         (t)->lengths[3], (t)->disputes, (t)->lengths[4]
 #define LENT(t) (t)->n, (t)->m, LENT_TABLES(t)
+#define LENT_BOTH(t)                                                                                                  \
+    LENT(t), (t)->flags, (t)->lengths[5], (t)->saved_links, (t)->lengths[6], (t)->saved_rules, (t)->lengths[7],       \
+        (t)->saved_entries, (t)->lengths[8], (t)->saved_disputes, (t)->lengths[9]
 
 /* What the library answers. */
 static uint32_t make(enum call call, const struct lent *t, struct arguments a) {
@@ -123,16 +153,23 @@ static uint32_t make(enum call call, const struct lent *t, struct arguments a) {
     case TAKE_LINK: return house_take_link(LENT(t), a.caller, a.x, a.y);
     case REFRESH: return house_refresh(LENT(t));
     case INSPECT: return house_inspect(LENT(t));
-    default: return house_parties(LENT(t), a.x, a.y);
+    case PARTIES: return house_parties(LENT(t), a.x, a.y);
+    case SAVE: return house_save(LENT_BOTH(t), a.x);
+    default: return house_return(LENT_BOTH(t), a.caller, a.x);
     }
 }
 
-/* A book with the lengths that it should have. */
-static struct lent lend(struct book *b) {
+/* A book and its store with the lengths that they should have. */
+static struct lent lend_both(struct book *b, struct store *s) {
     size_t n = b->n, m = b->m;
-    return (struct lent){b->n,     b->m,        b->links, b->rules, b->entries,
-                         b->tally, b->disputes, {n * n, n * m, n * m, HOUSE_CALLERS, m}, b};
+    return (struct lent){b->n,        b->m,     b->links, b->rules, b->entries, b->tally,
+                         b->disputes, s->flags, s->links, s->rules, s->entries, s->disputes, LENGTHS(n, m), b, s};
 }
+
+/* The store that is tried, and its copies: the one that is lent, and the one that this file works on. */
+static struct store store, lent_store, read_store;
+
+static struct lent lend(struct book *b) { return lend_both(b, &lent_store); }
 
 static uint32_t made(enum call call, struct book *b) {
     struct lent t = lend(b);
@@ -245,8 +282,12 @@ static uint32_t emptied(struct lent t) {
     return 0;
 }
 
-static uint32_t accepted(struct book *b, uint16_t caller) {
+static void count_edit(struct book *b, uint16_t caller) {
     if (b->tally[caller] < UINT32_MAX) b->tally[caller]++;
+}
+
+static uint32_t accepted(struct book *b, uint16_t caller) {
+    count_edit(b, caller);
     return work_out(b);
 }
 
@@ -282,23 +323,77 @@ static uint32_t parties(const struct book *b, struct arguments a) {
     return pair;
 }
 
+/* The book goes to the store, under a name. */
+static uint32_t stored(struct lent t, size_t name) {
+    size_t links = t.lengths[0], places = t.lengths[1], marks = t.lengths[4];
+    t.flags[name] = 1;
+    for (size_t i = 0; i < links; i++) t.saved_links[name * links + i] = t.links[i];
+    for (size_t i = 0; i < places; i++) t.saved_rules[name * places + i] = t.rules[i];
+    for (size_t i = 0; i < places; i++) t.saved_entries[name * places + i] = t.entries[i];
+    for (size_t i = 0; i < marks; i++) t.saved_disputes[name * marks + i] = t.disputes[i];
+    return 0;
+}
+
+/* What is there under a name comes to the book, but for the tally. How many entries differ from before. */
+static uint32_t fetched(struct lent t, size_t name) {
+    size_t links = t.lengths[0], places = t.lengths[1], marks = t.lengths[4];
+    uint32_t count = 0;
+    for (size_t i = 0; i < places; i++) count += t.entries[i] != t.saved_entries[name * places + i];
+    for (size_t i = 0; i < links; i++) t.links[i] = t.saved_links[name * links + i];
+    for (size_t i = 0; i < places; i++) t.rules[i] = t.saved_rules[name * places + i];
+    for (size_t i = 0; i < places; i++) t.entries[i] = t.saved_entries[name * places + i];
+    for (size_t i = 0; i < marks; i++) t.disputes[i] = t.saved_disputes[name * marks + i];
+    return count;
+}
+
+/* Faults by their 65536s, with 0 for none. */
+enum { FAULTS = HOUSE_WRONG_COUNT / 65536 + 1 };
+
+/* How often a book of each fault was saved, and replaced by a return; how often the state had the fault and the book
+   none; and how often a return was accepted by each flag, with 3 for all from there on. */
+static unsigned long saved_faults[FAULTS], replaced_faults[FAULTS], state_faults[FAULTS], returned_by_flag[4];
+
+static uint32_t save_to(struct book *b, struct store *s, struct arguments a, uint32_t fault) {
+    saved_faults[fault / 65536]++;
+    return stored(lend_both(b, s), a.x);
+}
+
+/* The state has to be sound, and the book need not be. */
+static uint32_t return_to(struct book *b, struct store *s, struct arguments a, uint32_t fault) {
+    struct book state = *b;
+    if (s->flags[a.x] == 0) return HOUSE_REFUSED_UNSAVED;
+    uint32_t count = fetched(lend_both(&state, s), a.x), unsound = inspected(&state);
+    if (unsound != HOUSE_SOUND) {
+        state_faults[unsound / 65536] += fault == HOUSE_SOUND;
+        return HOUSE_REFUSED_UNSOUND;
+    }
+    replaced_faults[fault / 65536]++;
+    returned_by_flag[s->flags[a.x] < 3 ? s->flags[a.x] : 3]++;
+    *b = state;
+    count_edit(b, a.caller);
+    return count;
+}
+
 /* The refusals of an argument by itself. */
 static uint32_t wrong_argument(const struct book *b, enum call call, struct arguments a) {
     const char *what = calls[call].arguments;
-    if (is_edit(call) && a.caller >= HOUSE_CALLERS) return HOUSE_REFUSED_CALLER;
+    if (has_caller(call) && a.caller >= HOUSE_CALLERS) return HOUSE_REFUSED_CALLER;
+    if (what[0] == 's' && a.x >= HOUSE_NAMES) return HOUSE_REFUSED_NAME;
     if (what[0] == 'k' && a.x >= b->n) return HOUSE_REFUSED_KIND;
     if (what[1] == 'k' && a.y >= b->n) return HOUSE_REFUSED_KIND;
     if (what[1] == 'm' && a.y >= b->m) return HOUSE_REFUSED_MARK;
     return what[2] == 'h' && a.z == 0 ? HOUSE_REFUSED_HANDLING : 0;
 }
 
-/* What a call should answer on a book of the right lengths where inspect should say `fault`; the book becomes what it
-   should leave. */
-static uint32_t expect(enum call call, struct book *b, struct arguments a, uint32_t fault) {
+/* What a call should answer on a book and a store of the right lengths, where inspect should say `fault` of the book;
+   they become what it should leave. */
+static uint32_t expect(enum call call, struct book *b, struct store *s, struct arguments a, uint32_t fault) {
     uint32_t refusal = wrong_argument(b, call, a);
     if (refusal != 0) return refusal;
     if (call == OPEN) return emptied(lend(b));
     if (call == INSPECT) return fault;
+    if (call == SAVE) return save_to(b, s, a, fault);
+    if (call == RETURN) return return_to(b, s, a, fault);
     if (fault != HOUSE_SOUND && (call != REFRESH || fault < HOUSE_WRONG_ENTRY)) return HOUSE_REFUSED_UNSOUND;
     if (call == REFRESH) return work_out(b);
     if (call == PARTIES) return parties(b, a);
@@ -309,8 +404,8 @@ static uint32_t expect(enum call call, struct book *b, struct arguments a, uint3
 
 static unsigned long books, old_books, calls_made;
 
-/* How often each call gave each refusal, and under 0 any other answer; and inspect each fault, by its 65536s. */
-static unsigned long answers[CALLS][14], faults[HOUSE_WRONG_COUNT / 65536 + 1];
+/* How often each call gave each refusal, and under 0 any other answer; and inspect each fault. */
+static unsigned long answers[CALLS][16], faults[FAULTS];
 
 /* How often an edit changed a count, and how often only entries. */
 static unsigned long counts_moved, counts_kept;
@@ -363,13 +458,17 @@ static void hold_other_marks(enum call call, const struct book *before, const st
     }
 }
 
-/* The answer and all five tables are the same. */
+static int same_stores(const struct store *a, const struct store *b) { return memcmp(a, b, sizeof *a) == 0; }
+
+/* The answer and all five tables are the same, and those of the store where the call has one. */
 static void try_call(enum call call, const struct book *b, struct arguments a, uint32_t fault) {
     struct book ours = *b, theirs = *b;
     struct lent t = lend(&theirs);
+    if (has_store(call)) read_store = lent_store = store;
     uint32_t given = counted(call, &t, a);
-    if (expect(call, &ours, a, fault) != given || memcmp(&ours, &theirs, sizeof ours) != 0)
+    if (expect(call, &ours, &read_store, a, fault) != given || memcmp(&ours, &theirs, sizeof ours) != 0)
         fail(calls[call].name, b);
+    if (has_store(call) && !same_stores(&read_store, &lent_store)) fail(calls[call].name, b);
     if (is_edit(call)) hold_other_marks(call, b, &theirs);
 }
 
@@ -408,7 +507,7 @@ typedef uint32_t way(enum call call, const struct lent *t, struct arguments a);
 
 /* The tables have the right lengths, and an edit gets a sound book. */
 static uint32_t read_plainly(enum call call, const struct lent *t, struct arguments a) {
-    return expect(call, t->book, a, call == INSPECT ? inspected(t->book) : HOUSE_SOUND);
+    return expect(call, t->book, t->store, a, call == INSPECT ? inspected(t->book) : HOUSE_SOUND);
 }
 
 static uint32_t make_record(way *carry_out, const struct lent *t, struct house_edit e, uint16_t caller) {
@@ -497,13 +596,14 @@ static void try_lists(const struct book *b) {
 
 /* ---- every call on a book */
 
-/* How many numbers are tried for an argument, and which: the kinds or marks of the book, the first that it has not, and
-   the largest number. */
+/* How many numbers are tried for an argument, and which: the kinds or marks of the book, or two names, which are drawn;
+   the first that there is not, and the largest number. */
 static unsigned many(char what, const struct book *b) {
-    return what == 'k' ? b->n + 2u : what == 'm' ? b->m + 2u : what == 'h' ? 3 : 1;
+    return what == 'k' ? b->n + 2u : what == 'm' ? b->m + 2u : what == 's' ? 4 : what == 'h' ? 3 : 1;
 }
 static uint16_t number(char what, const struct book *b, unsigned i) {
     if (i + 1 == many(what, b)) return 65535;
+    if (what == 's') return (uint16_t)(i == 2 ? HOUSE_NAMES : chance() % HOUSE_NAMES);
     return (uint16_t)(what == 'h' ? 20 * i : i);
 }
 
@@ -516,7 +616,7 @@ static void try_calls(const struct book *b) {
                 for (unsigned k = 0; k < many(what[2], b); k++) {
                     uint16_t x = number(what[0], b, i), y = number(what[1], b, j), z = number(what[2], b, k);
                     try_call(call, b, (struct arguments){between(0, HOUSE_CALLERS - 1), x, y, z}, fault);
-                    if (is_edit(call))
+                    if (has_caller(call))
                         try_call(call, b, (struct arguments){between(HOUSE_CALLERS, 65535), x, y, z}, fault);
                 }
     }
@@ -524,29 +624,39 @@ static void try_calls(const struct book *b) {
     try_list(b, between(HOUSE_CALLERS, 65535));
 }
 
-/* Every call with a wrong length of one table, whatever its arguments. */
+/* Every call that is lent a table with a wrong length of it, whatever its arguments. */
 static void try_length(const struct book *b, unsigned table, size_t length) {
     struct book lent = *b;
-    for (unsigned i = 0; i < CALLS * 2; i++) {
+    lent_store = store;
+    for (unsigned i = table < TABLES ? 0 : SAVE * 2; i < CALLS * 2; i++) {
         enum call call = i / 2;
         struct lent t = lend(&lent);
         t.lengths[table] = length;
         uint32_t given = counted(call, &t, i % 2 == 0 ? good : bad);
         if (given != HOUSE_REFUSED_BOOK || memcmp(&lent, b, sizeof lent) != 0) fail(calls[call].name, b);
     }
+    if (!same_stores(&lent_store, &store)) fail("a store", b);
+    if (table >= TABLES) return;
     struct lent t = lend(&lent);
     t.lengths[table] = length;
     if (!lists_refused_for_book(&t) || memcmp(&lent, b, sizeof lent) != 0) fail("a list", b);
 }
 
 /* Lengths that are one off; a tally of no number or of one, as it once was; disputes of no mark, of bytes, of as many
-   marks as any book has and of any too many. */
+   marks as any book has and of any too many; tables of a store of no name, for one name, and for one less or more. */
 static void try_lengths(const struct book *b) {
     struct book copy = *b;
     struct lent right = lend(&copy);
-    for (unsigned table = 0; table < TABLES; table++) {
+    for (unsigned table = 0; table < 2 * TABLES; table++) {
         try_length(b, table, right.lengths[table] - 1);
         try_length(b, table, right.lengths[table] + 1);
+    }
+    for (unsigned table = TABLES; table < 2 * TABLES; table++) {
+        size_t one = right.lengths[table] / HOUSE_NAMES;
+        try_length(b, table, 0);
+        try_length(b, table, one);
+        try_length(b, table, right.lengths[table] - one);
+        try_length(b, table, right.lengths[table] + one);
     }
     try_length(b, 3, 0);
     try_length(b, 3, 1);
@@ -657,9 +767,175 @@ static void try_any_entries(struct book b) {
     try_call(REFRESH, &b, good, fault);
 }
 
+/* One entry wrong, with any counts. */
+static void spoil_entry(struct book *b) {
+    uint16_t *entry = &b->entries[chance() % ((unsigned)b->n * b->m)];
+    *entry ^= (uint16_t)(chance() % 2 == 0 ? 1 + chance() % 3 : 256);
+    draw_counts(b);
+}
+
+/* ---- stores, and calls in sequence */
+
+/* Damage of any sort to a sound book: a link byte, a cycle, an entry or the counts. */
+static void damage(struct book *b) {
+    unsigned n = b->n, c = (unsigned)chance() % n, p = (unsigned)chance() % n;
+    switch (chance() % 4) {
+    case 0: b->links[c * n + p] = (uint8_t)between(2, 255); break;
+    case 1:
+        if (!above(b, c, p)) b->links[c * n + p] = 1;
+        b->links[p * n + c] = 1;
+        break;
+    case 2: spoil_entry(b); break;
+    default: spoil_counts(b, (unsigned)chance() % SORTS);
+    }
+}
+
+/* The state under a name, as a book with the tally of another. */
+static struct book state_in(struct store *s, size_t name, const struct book *b) {
+    struct book state = *b;
+    fetched(lend_both(&state, s), name);
+    return state;
+}
+
+/* Puts a state under a name, and any flag beside it. */
+static void put_state(struct store *s, size_t name, struct book state, uint8_t flag) {
+    stored(lend_both(&state, s), name);
+    s->flags[name] = flag;
+}
+
+/* A store for a sound book: zeros, or anything at all, with states among it that are some edits away from the book,
+   sound or damaged. */
+static void draw_store(const struct book *b) {
+    static const uint8_t flags[] = {0, 1, 1, 2, 255};
+    memset(&store, 0, sizeof store);
+    if (chance() % 4 == 0) return;
+    for (size_t i = 0; i < sizeof store; i++) ((uint8_t *)&store)[i] = (uint8_t)chance();
+    for (size_t name = 0; name < HOUSE_NAMES; name++) {
+        struct book state = *b;
+        struct lent t = lend(&state);
+        if (chance() % 8 == 0) continue;
+        for (unsigned edits = (unsigned)chance() % 4; edits > 0; edits--) make_record(make, &t, draw_record(&t), 0);
+        if (chance() % 2 == 0) damage(&state);
+        put_state(&store, name, state, flags[chance() % MANY(flags)]);
+    }
+}
+
+/* A book and its store. */
+struct both {
+    struct book book;
+    struct store store;
+};
+
+/* What a sequence of calls works on: the library, and this file's reading. From an accepted return on the library makes
+   the calls a second time, on the state as it was when it was saved, with a tally of its own, and the store as the
+   return found it. */
+static struct {
+    struct both theirs, ours, after;
+    struct book states[HOUSE_NAMES];
+    uint16_t name; /* the one that is drawn most */
+    int returned;
+} sequence;
+
+static unsigned long calls_after;
+
+static struct lent lend_sequence(struct both *one) { return lend_both(&one->book, &one->store); }
+
+static int same_both(const struct both *a, const struct both *b) {
+    return memcmp(&a->book, &b->book, sizeof a->book) == 0 && same_stores(&a->store, &b->store);
+}
+
+/* The same answers, and the same ten tables; after a return, but for the tally. */
+static void hold_sequence(const char *what, uint64_t theirs, uint64_t ours, uint64_t after) {
+    struct both other = sequence.theirs;
+    if (theirs != ours || !same_both(&sequence.theirs, &sequence.ours)) fail(what, &other.book);
+    if (!sequence.returned) return;
+    calls_after++;
+    memcpy(other.book.tally, sequence.after.book.tally, sizeof other.book.tally);
+    if (theirs != after || !same_both(&other, &sequence.after)) fail("a call after a return", &other.book);
+}
+
+/* The state that was returned to, with a tally of its own, and the store that was found. */
+static void begin_after(size_t name, const struct store *found) {
+    sequence.returned = 1;
+    sequence.after.book = sequence.states[name];
+    sequence.after.store = *found;
+    for (unsigned c = 0; c < HOUSE_CALLERS; c++) sequence.after.book.tally[c] = tallied();
+}
+
+static void step_call(enum call call, struct arguments a) {
+    struct both found = sequence.theirs;
+    struct lent t = lend_sequence(&sequence.theirs), after = lend_sequence(&sequence.after);
+    uint32_t fault = inspected(&found.book), theirs = counted(call, &t, a);
+    uint32_t ours = expect(call, &sequence.ours.book, &sequence.ours.store, a, fault);
+    hold_sequence(calls[call].name, theirs, ours, sequence.returned ? make(call, &after, a) : 0);
+    if (house_is_refusal(theirs)) return;
+    if (call == SAVE) sequence.states[a.x] = found.book;
+    if (call != RETURN || (sequence.returned && chance() % 2 == 0)) return;
+    begin_after(a.x, &found.store);
+    hold_sequence("the state after a return", theirs, ours, theirs);
+}
+
+static void step_list(void) {
+    struct book spent = sequence.theirs.book;
+    struct lent copy = lend(&spent), t = lend_sequence(&sequence.theirs), read = lend_sequence(&sequence.ours);
+    struct lent after = lend_sequence(&sequence.after);
+    uint16_t caller = draw_number(HOUSE_CALLERS);
+    draw_list(&copy, between(0, 8), 8);
+    uint64_t theirs = make_list(&t, caller), ours = one_by_one(read_plainly, &read, caller);
+    hold_sequence("a list", theirs, ours, sequence.returned ? make_list(&after, caller) : 0);
+}
+
+/* Something else than a call writes the book, or a state of the store. */
+static void step_damage(void) {
+    struct both *both = &sequence.theirs;
+    size_t name = sequence.name;
+    if (chance() % 2 == 0) {
+        damage(&both->book);
+    } else {
+        damage(&sequence.states[name]);
+        put_state(&both->store, name, sequence.states[name], (uint8_t)between(0, 255));
+    }
+    sequence.ours = *both;
+    sequence.returned = 0;
+}
+
+static void try_step(void) {
+    struct lent t = lend_sequence(&sequence.theirs);
+    struct house_edit e = draw_record(&t);
+    uint16_t caller = draw_number(HOUSE_CALLERS), name = chance() % 4 == 0 ? draw_number(HOUSE_NAMES) : sequence.name;
+    switch (chance() % 16) {
+    case 0: step_damage(); break;
+    case 1: step_list(); break;
+    case 2: step_call(chance() % 2 == 0 ? OPEN : REFRESH, good); break;
+    case 3:
+    case 4:
+    case 5: step_call(SAVE, (struct arguments){caller, name, 0, 0}); break;
+    case 6:
+    case 7:
+    case 8:
+    case 9: step_call(RETURN, (struct arguments){caller, name, 0, 0}); break;
+    default:
+        if (is_edit(e.what)) step_call(e.what, (struct arguments){caller, e.kind, e.other, e.handling});
+    }
+}
+
+/* A sequence of calls on a book and the store that was drawn for it. */
+static void try_sequence(const struct book *b) {
+    sequence.theirs.book = sequence.ours.book = *b;
+    sequence.theirs.store = sequence.ours.store = store;
+    for (size_t name = 0; name < HOUSE_NAMES; name++) sequence.states[name] = state_in(&store, name, b);
+    sequence.name = (uint16_t)(chance() % HOUSE_NAMES);
+    sequence.returned = 0;
+    for (unsigned steps = between(6, 18); steps > 0; steps--) try_step();
+}
+
+/* ---- all of this on a book */
+
 static void try_book(const struct book *b) {
     struct book damaged = *b;
     books++;
+    draw_store(b);
+    try_sequence(b);
     try_lists(b);
     try_calls(b);
     try_lengths(b);
@@ -667,9 +943,7 @@ static void try_book(const struct book *b) {
     try_old(b);
     try_any_entries(*b);
     /* one entry wrong, then one link byte */
-    uint16_t *entry = &damaged.entries[books % ((unsigned)b->n * b->m)];
-    *entry ^= (uint16_t)(chance() % 2 == 0 ? 1 + books % 3 : 256);
-    draw_counts(&damaged);
+    spoil_entry(&damaged);
     try_calls(&damaged);
     damaged = *b;
     damaged.links[books % ((unsigned)b->n * b->n)] ^= (uint8_t)(1 + books % 3);
@@ -898,20 +1172,62 @@ static void try_counted_lists(void) {
     }
 }
 
+/* The diamond is saved under the first name, and under the last with a rule more, which makes a dispute. */
+static void try_named_states(void) {
+    static const struct pair links[] = {{1, 0}, {2, 0}, {3, 1}, {3, 2}}, rules[] = {{0, 10}, {1, 20}};
+    static const uint16_t plain[] = {1, 0, 2, 0, 1, 0, 2, 0, 0, 0}, disputed[] = {1, 0, 2, 0, 3, 0, 260, 0, 1, 0};
+    static const struct step saves[] =
+        {
+            {RETURN, {0, 0, 0, 0}, HOUSE_REFUSED_UNSAVED},
+            {SAVE, {0, 0, 0, 0}, 0},
+            {ADD_RULE, {0, 2, 0, 20}, 2},
+            {SAVE, {0, 7, 0, 0}, 0},
+            {SAVE, {0, 8, 0, 0}, HOUSE_REFUSED_NAME},
+        },
+        first[] = {{RETURN, {3, 0, 0, 0}, 2}, {RETURN, {3, 0, 0, 0}, 0}},
+        last[] = {
+            {RETURN, {16, 8, 0, 0}, HOUSE_REFUSED_CALLER},
+            {RETURN, {15, 8, 0, 0}, HOUSE_REFUSED_NAME},
+            {RETURN, {15, 1, 0, 0}, HOUSE_REFUSED_UNSAVED},
+            {RETURN, {15, 7, 0, 0}, 2},
+        };
+    static const struct store kept = {
+        .flags = {1, 0, 0, 0, 0, 0, 0, 1},
+        .links = {[4] = 1, [8] = 1, [13] = 1, [14] = 1, [116] = 1, [120] = 1, [125] = 1, [126] = 1},
+        .rules = {[0] = 10, [2] = 20, [56] = 10, [58] = 20, [60] = 20},
+        .entries = {[0] = 1, [2] = 2, [4] = 1, [6] = 2, [56] = 1, [58] = 2, [60] = 3, [62] = 260},
+        .disputes = {[14] = 1},
+    };
+    struct book b = named_book(4, 2, links, MANY(links), rules, MANY(rules));
+    memset(&lent_store, 0, sizeof lent_store);
+    hold_answers("saves", &b, saves, MANY(saves));
+    hold_entries("saves", &b, disputed);
+    hold_answers("a return to the first name", &b, first, MANY(first));
+    hold_entries("a return to the first name", &b, plain);
+    hold_answers("a return to the last name", &b, last, MANY(last));
+    hold_entries("a return to the last name", &b, disputed);
+    if (b.tally[0] != 1 || b.tally[3] != 2 || b.tally[15] != 1) fail("the tally of returns", &b);
+    if (!same_stores(&lent_store, &kept)) fail("the store of named states", &b);
+}
+
 /* ---- sizes at and past the edges */
 
-/* Tables for more kinds and marks than a book may have. */
+/* Tables for more kinds and marks than a book may have, and for its store. */
 static struct room {
     uint8_t links[129 * 129];
     uint16_t rules[129 * 65], entries[129 * 65];
     uint32_t tally[HOUSE_CALLERS];
     uint16_t disputes[MOST_MARKS + 1];
+    uint8_t flags[HOUSE_NAMES], saved_links[HOUSE_NAMES * 129 * 129];
+    uint16_t saved_rules[HOUSE_NAMES * 129 * 65], saved_entries[HOUSE_NAMES * 129 * 65];
+    uint16_t saved_disputes[HOUSE_NAMES * (MOST_MARKS + 1)];
 } room, other_room;
 
 /* Of a room its leading part, as long as the size asks. */
 static struct lent fitting(struct room *r, size_t n, size_t m) {
-    return (struct lent){(uint16_t)n, (uint16_t)m, r->links, r->rules, r->entries,
-                         r->tally,    r->disputes, {n * n, n * m, n * m, HOUSE_CALLERS, m}, NULL};
+    return (struct lent){(uint16_t)n, (uint16_t)m, r->links,       r->rules,       r->entries,       r->tally,
+                         r->disputes, r->flags,    r->saved_links, r->saved_rules, r->saved_entries, r->saved_disputes,
+                         LENGTHS(n, m), NULL, NULL};
 }
 
 /* Every call, and a list after each, refuses a size outside the range, though the tables fit it, and writes nothing. */
@@ -966,15 +1282,34 @@ static void try_parties_of_the_largest(void) {
     }
 }
 
-/* NULL with 0 elements is refused, for all tables and for disputes alone. */
+/* Every call that is lent one of these tables is refused for its book or store. */
+static void hold_refused(const struct lent *t, unsigned table) {
+    for (enum call call = table < TABLES ? OPEN : SAVE; call < CALLS; call++)
+        if (counted(call, t, good) != HOUSE_REFUSED_BOOK) fail_at(calls[call].name, t->n, t->m);
+    if (table < TABLES && !lists_refused_for_book(t)) fail_at("a list", t->n, t->m);
+}
+
+/* NULL with 0 elements is refused, for all tables and for each alone. */
 static void try_null(void) {
-    struct lent none = {4, 2, NULL, NULL, NULL, NULL, NULL, {0, 0, 0, 0, 0}, NULL}, rest = fitting(&room, 4, 2);
-    rest.disputes = NULL;
-    rest.lengths[4] = 0;
-    for (enum call call = 0; call < CALLS; call++)
-        if (counted(call, &none, good) != HOUSE_REFUSED_BOOK || counted(call, &rest, good) != HOUSE_REFUSED_BOOK)
-            fail_at(calls[call].name, 4, 2);
-    if (!lists_refused_for_book(&none) || !lists_refused_for_book(&rest)) fail_at("a list", 4, 2);
+    struct lent none = {.n = 4, .m = 2}, all = fitting(&room, 4, 2);
+    hold_refused(&none, 0);
+    for (unsigned table = 0; table < 2 * TABLES; table++) {
+        struct lent t = all;
+        t.lengths[table] = 0;
+        switch (table) {
+        case 0: t.links = NULL; break;
+        case 1: t.rules = NULL; break;
+        case 2: t.entries = NULL; break;
+        case 3: t.tally = NULL; break;
+        case 4: t.disputes = NULL; break;
+        case 5: t.flags = NULL; break;
+        case 6: t.saved_links = NULL; break;
+        case 7: t.saved_rules = NULL; break;
+        case 8: t.saved_entries = NULL; break;
+        default: t.saved_disputes = NULL;
+        }
+        hold_refused(&t, table);
+    }
 }
 
 /* ---- the largest book with as many disputes as there can be: all kinds from 2 on are under kinds 0 and 1, which both
@@ -1085,6 +1420,39 @@ static void try_large_lists(void) {
     try_large_list(LARGEST, MOST_MARKS, HOUSE_MOST_EDITS);
 }
 
+/* A state of a large book is saved and, after edits, returned to. */
+static void try_large_state(uint16_t n, uint16_t m) {
+    struct lent t = fitting(&room, n, m), read = fitting(&other_room, n, m);
+    struct arguments a = {between(0, HOUSE_CALLERS - 1), between(0, HOUSE_NAMES - 1), 0, 0};
+    fill_room(n, m);
+    memcpy(&other_room, &room, sizeof room);
+    if (counted(SAVE, &t, a) != stored(read, a.x) || memcmp(&room, &other_room, sizeof room) != 0)
+        fail_at("save", n, m);
+    draw_list(&t, 40, 1000);
+    memcpy(&other_room, &room, sizeof room);
+    other_room.tally[a.caller]++;
+    if (counted(RETURN, &t, a) != fetched(read, a.x) || memcmp(&room, &other_room, sizeof room) != 0 ||
+        counted(INSPECT, &t, good) != HOUSE_SOUND)
+        fail_at("return", n, m);
+    /* one bit of the copies wrong, and only there */
+    size_t places = t.lengths[1], place = a.x * places + chance() % places, bit = 1u << chance() % 16;
+    switch (chance() % 3) {
+    case 0: room.saved_links[a.x * t.lengths[0] + chance() % t.lengths[0]] ^= 2; break;
+    case 1: room.saved_entries[place] ^= (uint16_t)bit; break;
+    default: room.saved_disputes[a.x * m + place % m] ^= (uint16_t)bit;
+    }
+    memcpy(&other_room, &room, sizeof room);
+    if (counted(RETURN, &t, a) != HOUSE_REFUSED_UNSOUND || memcmp(&room, &other_room, sizeof room) != 0)
+        fail_at("a return to a damaged state", n, m);
+}
+
+static void try_large_states(void) {
+    static const struct pair sizes[] = {{1, 1},   {1, 64},  {128, 1}, {7, 3},    {24, 16},
+                                        {63, 64}, {64, 63}, {65, 33}, {127, 63}, {128, 64}};
+    for (size_t i = 0; i < 6 * MANY(sizes); i++)
+        try_large_state(sizes[i % MANY(sizes)].one, sizes[i % MANY(sizes)].other);
+}
+
 /* The highest sum: the last kind has a rule for every mark and all others are under it, all but one by way of that one,
    whose link is taken and added again. The tally stays at its highest number. */
 static void try_highest_sum(void) {
@@ -1114,7 +1482,8 @@ static int rare(unsigned long times, const char *what, unsigned number) {
 }
 
 /* Every refusal of every call came up often, with 0 for none, and so did every one by which a list stops, every fault,
-   every sort of wrong counts and parties that tell the two lowest kinds left from other pairs. */
+   that of a book saved or replaced and that of a state too, every sort of flag and of wrong counts, and parties that
+   tell the two lowest kinds left from other pairs. */
 static void hold_often(void) {
     static const unsigned refused[] = {1, 13, 5}, stopped[] = {0, 19, 2, 3, 4, 6, 7, 8, 9};
     int any = rare(old_books, "other entries by the old lookup", 0);
@@ -1122,6 +1491,7 @@ static void hold_often(void) {
     any |= rare(counts_kept, "an edit that changes entries and no count", 0);
     any |= rare(more_left, "parties of more than two kinds left", 0);
     any |= rare(lower_hidden, "parties where a lower kind is seen and not left", 0);
+    any |= rare(calls_after, "a call after a return", 0);
     for (enum call call = 0; call < CALLS; call++)
         for (size_t i = 0; i < MANY(calls[call].refusals); i++) {
             unsigned refusal = calls[call].refusals[i];
@@ -1129,7 +1499,13 @@ static void hold_often(void) {
         }
     for (size_t i = 0; i < MANY(refused); i++) any |= rare(lists_refused[refused[i]], "a refused list", refused[i]);
     for (size_t i = 0; i < MANY(stopped); i++) any |= rare(lists_stopped[stopped[i]], "a list that stops", stopped[i]);
-    for (unsigned i = HOUSE_LINK_BYTE / 65536; i < MANY(faults); i++) any |= rare(faults[i], "the fault, by 65536", i);
+    for (unsigned i = HOUSE_LINK_BYTE / 65536; i < FAULTS; i++) {
+        any |= rare(faults[i], "the fault, by 65536", i);
+        any |= rare(saved_faults[i], "a save of a book with the fault", i);
+        any |= rare(replaced_faults[i], "a return on a book with the fault", i);
+        any |= rare(state_faults[i], "a return to a state with the fault", i);
+    }
+    for (unsigned i = 1; i < MANY(returned_by_flag); i++) any |= rare(returned_by_flag[i], "a return by the flag", i);
     for (unsigned i = 0; i < SORTS; i++) any |= rare(wrong_counts[i], "wrong counts of sort", i);
     if (any) exit(EXIT_FAILURE);
 }
@@ -1153,6 +1529,7 @@ int main(void) {
     try_parties();
     try_counted_session();
     try_counted_lists();
+    try_named_states();
     try_sizes_outside();
     try_sizes_at_the_edges();
     try_parties_of_the_largest();
@@ -1160,6 +1537,7 @@ int main(void) {
     try_highest_counts();
     try_long_lists();
     try_large_lists();
+    try_large_states();
     try_highest_sum();
     hold_often();
     printf("%lu books, %lu of them all those of up to 3 kinds and 2 marks, %lu not sound as stored before; %lu calls\n",

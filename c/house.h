@@ -1,5 +1,6 @@
 /* The calls of a house, for programs written in C or C++: open a book, edit its links and rules, by single edits or by
-   a list of them, see whose rules are in dispute, inspect a book and refresh it. The find is in lane.h.
+   a list of them, save states of it and return to them, see whose rules are in dispute, inspect a book and refresh it.
+   The find is in lane.h.
 
    docs/SCOPE.md says call by call what the product does, and the library is proved to do it. "rt staticlib house"
    writes target/staticlib/libhouse.a, which links into x86-64 programs, beside liblane.a where a program asks the find
@@ -20,8 +21,9 @@
      disputes  uint16_t  m             place mark holds how many kinds have a dispute entry for the mark
 
    CALLERS. A caller is whoever enters an edit, such as one of two suppliers. The house gives its callers numbers from
-   0 to 15, and each edit, or list of edits, takes the number of the one who entered it, so that the tally has how many
-   edits of each were accepted. Every caller may edit all of the book. A house that does not tell them apart gives 0.
+   0 to 15, and each edit, list of edits or return, which counts as one edit, takes the number of the one who entered
+   it, so that the tally has how many edits of each were accepted. Every caller may edit all of the book. A house that
+   does not tell them apart gives 0.
 
    THE LOOKUP. Kind P is above kind C if a chain of one or more links leads from C up to P. The lookup at a kind and a
    mark starts from the kinds with their own rule for the mark that are seen: the kind itself if it has one, otherwise
@@ -34,22 +36,38 @@
    disputes has the right count at every mark. Rules and tally may hold anything. An opened book is sound, and each call
    leaves a sound book sound.
 
-   LENDING. Each call takes n, m and the five tables, each as a pointer and then its number of elements, not of bytes.
-   It writes those tables that are not const, and nothing else of the program's. Numbers are the machine's own, which on
-   x86-64 has the lowest byte first. A call takes each length at its word: that many elements must be there, at an
-   address that is right for their type, and no two tables may overlap. A length that is not the book's is refused, so
-   NULL with 0 is refused too. A list of edits is lent like a table, before the tables, and overlaps none of them.
+   THE STORE. States of a book are kept under names, which are numbers from 0 to 7, in a store: five more tables of the
+   program's own memory, which only save and return are lent. Open and the other calls do not touch it.
 
-   TAKING TURNS. While a call runs, nothing else writes any of the book's tables, or the list lent to it, and nothing
-   else reads those that it writes. So calls on one book take turns, unless all of them only read: either a lock is held
-   around each call, finds included, or a copy is edited and swapped in once the call is back, and lanes go on with the
-   old one meanwhile. A list is one call, and takes one turn. The library keeps nothing between calls, so calls on
-   different books may run at the same time.
+     table           elements  their number   what it holds
+     flags           uint8_t   8              place name holds 0 if nothing was ever saved under the name; any other
+                                              number counts as saved
+     saved_links     uint8_t   8 * n * n      a copy of links for each name, in order of name: that of a name begins at
+                                              place name * n * n
+     saved_rules     uint16_t  8 * n * m      in the same way copies of rules
+     saved_entries   uint16_t  8 * n * m      copies of entries
+     saved_disputes  uint16_t  8 * m          copies of disputes
+
+   Memory that is all 0 is a store where nothing is saved. The tally is no part of a state. A store fits books of one n
+   and m, and is refused with others; for 128 kinds and 64 marks it takes 394248 bytes.
+
+   LENDING. Each call takes n, m and the five tables, each as a pointer and then its number of elements, not of bytes;
+   save and return take those of the store after them in the same way. A call writes those tables that are not const,
+   and nothing else of the program's. Numbers are the machine's own, which on x86-64 has the lowest byte first. A call
+   takes each length at its word: that many elements must be there, at an address that is right for their type, and no
+   two tables may overlap, of book or store. A length that is not the book's is refused, so NULL with 0 is refused too.
+   A list of edits is lent like a table, before the tables, and overlaps none of them.
+
+   TAKING TURNS. While a call runs, nothing else writes any of the tables, or the list, lent to it, and nothing else
+   reads those that it writes. So calls on one book, or with one store, take turns, unless all of them only read: either
+   a lock is held around each call, finds included, or a copy is edited and swapped in once the call is back, and lanes
+   go on with the old one meanwhile. A list is one call, and takes one turn. The library keeps nothing between calls, so
+   calls on different books, with different stores if any, may run at the same time.
 
    MEMORY. A call takes stack and nothing else. Leave it 24 KB, and inspect 40 KB: c/stack.c measures 37 KB for inspect,
-   which works the lookups out beside the entries, and 24 KB for parties, 22 KB for an edit or a list of any length, and
-   21 KB for refresh, on 128 kinds in one chain of links, which calls go along by recursion. Open takes what memset
-   takes.
+   which works the lookups out beside the entries, and 24 KB for parties, 22 KB for an edit, a return or a list of any
+   length, and 21 KB for refresh, on 128 kinds in one chain of links, which calls go along by recursion. Open takes
+   what memset takes, and save a few hundred bytes.
 
    FOR LANES the same memory goes to lane_find as bytes, whose order lane.h asks for is that of x86-64:
 
@@ -70,6 +88,9 @@ extern "C" {
 /* The most callers: the tally has a number for each. */
 #define HOUSE_CALLERS 16
 
+/* The most names: the store has a flag and a copy of each table for each. */
+#define HOUSE_NAMES 8
+
 /* ---- refusals */
 
 /* A refused call writes nothing. It answers one of these, 65536 + the refusal's number; of the numbers that are missing
@@ -77,19 +98,21 @@ extern "C" {
    number in the order of its checks: it gives the first that applies, and no other. */
 enum {
     HOUSE_REFUSED = 65536,
-    HOUSE_REFUSED_BOOK = 65536 + 1,        /* n or m is outside its range, or a table has not exactly its length, or a
-                                              list has too many records */
+    HOUSE_REFUSED_BOOK = 65536 + 1,        /* n or m is outside its range, or a table, of book or store, has not exactly
+                                              its length, or a list has too many records */
     HOUSE_REFUSED_KIND = 65536 + 2,        /* the book has no such kind: kind, child or parent is not below n */
     HOUSE_REFUSED_MARK = 65536 + 3,        /* the book has no such mark: mark is not below m */
     HOUSE_REFUSED_HANDLING = 65536 + 4,    /* handling is 0 */
     HOUSE_REFUSED_UNSOUND = 65536 + 5,     /* the book is not sound, and inspect says where; of refresh: a link byte is
-                                              above 1, or a kind is above itself */
+                                              above 1, or a kind is above itself; of return: the state is not sound */
     HOUSE_REFUSED_NO_RULE = 65536 + 6,     /* the kind has no own rule for the mark */
     HOUSE_REFUSED_LINKED = 65536 + 7,      /* the link is there already */
     HOUSE_REFUSED_NOT_LINKED = 65536 + 8,  /* there is no such link */
     HOUSE_REFUSED_CYCLE = 65536 + 9,       /* the parent is the child, or the child is above the parent */
     HOUSE_REFUSED_NO_DISPUTE = 65536 + 11, /* the entry is no dispute */
     HOUSE_REFUSED_CALLER = 65536 + 13,     /* there is no such caller: caller is above 15 */
+    HOUSE_REFUSED_NAME = 65536 + 14,       /* there is no such name: name is above 7 */
+    HOUSE_REFUSED_UNSAVED = 65536 + 15,    /* nothing was ever saved under the name: its flag is 0 */
     HOUSE_REFUSED_NO_EDIT = 65536 + 19     /* a record of a list, which stops there, is no edit: what is not 1 to 4 */
 };
 
@@ -188,6 +211,29 @@ static inline uint32_t house_list_changed(uint64_t answer) {
 static inline unsigned house_list_stop(uint64_t answer) {
     return (unsigned)(answer / 65536 % 256);
 }
+
+/* ---- save and return */
+
+/* Copies links, rules, entries and disputes, sound or not, into the store under the name, and sets its flag to 1. What
+   was saved under the name is replaced; the other flags and copies stay, and nothing of the book changes. Answers 0.
+   Refusals: 1, 14. */
+uint32_t house_save(uint16_t n, uint16_t m, const uint8_t *links, size_t links_len, const uint16_t *rules,
+                    size_t rules_len, const uint16_t *entries, size_t entries_len, const uint32_t *tally,
+                    size_t tally_len, const uint16_t *disputes, size_t disputes_len, uint8_t *flags, size_t flags_len,
+                    uint8_t *saved_links, size_t saved_links_len, uint16_t *saved_rules, size_t saved_rules_len,
+                    uint16_t *saved_entries, size_t saved_entries_len, uint16_t *saved_disputes,
+                    size_t saved_disputes_len, uint16_t name);
+
+/* Links, rules, entries and disputes become what was saved under the name, which has to be sound; the book that is
+   replaced need not be. Adds 1 to its caller's number in the tally, and to no other. The store stays, so that a state
+   can be returned to again. Answers the number of places of entries that differ from before, 0 to n * m.
+   Refusals: 1, 13, 14, 15, 5. */
+uint32_t house_return(uint16_t n, uint16_t m, uint8_t *links, size_t links_len, uint16_t *rules, size_t rules_len,
+                      uint16_t *entries, size_t entries_len, uint32_t *tally, size_t tally_len, uint16_t *disputes,
+                      size_t disputes_len, const uint8_t *flags, size_t flags_len, const uint8_t *saved_links,
+                      size_t saved_links_len, const uint16_t *saved_rules, size_t saved_rules_len,
+                      const uint16_t *saved_entries, size_t saved_entries_len, const uint16_t *saved_disputes,
+                      size_t saved_disputes_len, uint16_t caller, uint16_t name);
 
 /* ---- refresh */
 

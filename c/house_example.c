@@ -1,5 +1,5 @@
-/* A house in small: it opens a book, edits it for two suppliers while a lane asks, sees a dispute, mends a damaged copy
-   and enters a list of edits.
+/* A house in small: it opens a book, edits it for two suppliers while a lane asks, sees a dispute, mends a damaged
+   copy, enters a list of edits, and saves the book to return to it.
 
      cc -o house_example c/house_example.c target/staticlib/libhouse.a target/staticlib/liblane.a */
 
@@ -22,6 +22,19 @@ struct book {
 #define TABLES(b) \
     (b)->links, N * N, (b)->rules, N * M, (b)->entries, N * M, (b)->tally, HOUSE_CALLERS, (b)->disputes, M
 #define LENT(b) N, M, TABLES(b)
+
+/* A store of states of the book, and what save and return are lent of it. */
+struct store {
+    uint8_t flags[HOUSE_NAMES], links[HOUSE_NAMES * N * N];
+    uint16_t rules[HOUSE_NAMES * N * M], entries[HOUSE_NAMES * N * M], disputes[HOUSE_NAMES * M];
+};
+
+#define STORE(s) \
+    (s)->flags, HOUSE_NAMES, (s)->links, HOUSE_NAMES * N * N, (s)->rules, HOUSE_NAMES * N * M, (s)->entries, \
+        HOUSE_NAMES * N * M, (s)->disputes, HOUSE_NAMES * M
+
+/* The names of states that this house has. */
+enum { MORNING = 0, NOON = 1 };
 
 /* The suppliers whose edits this house enters: the callers that it tells apart. */
 enum { ORCHARD = 0, IMPORTER = 1 };
@@ -50,6 +63,10 @@ static const char *refusal_name(uint32_t answer) {
         return "there is no dispute";
     case HOUSE_REFUSED_CALLER:
         return "there is no such caller";
+    case HOUSE_REFUSED_NAME:
+        return "there is no such name";
+    case HOUSE_REFUSED_UNSAVED:
+        return "nothing was saved under the name";
     case HOUSE_REFUSED_NO_EDIT:
         return "there is no such edit";
     default:
@@ -57,7 +74,7 @@ static const char *refusal_name(uint32_t answer) {
     }
 }
 
-/* Prints what an edit or a refresh answered, or any refusal. */
+/* Prints what an edit, a return or a refresh answered, or any refusal. */
 static void tell(const char *call, uint32_t answer) {
     if (house_is_refusal(answer)) {
         printf("%-24s refused: %s (refusal %u)\n", call, refusal_name(answer), house_refusal(answer));
@@ -188,6 +205,24 @@ static void enter_spring_list(struct book *book) {
     ask(book, 3, 1);
 }
 
+/* The morning's book is saved before a harder rule is tried, and brought back. The store starts as zeros: nothing is
+   saved in it. */
+static void try_harder_rule(struct book *book) {
+    static struct store store;
+    uint32_t answer = house_save(LENT(book), STORE(&store), MORNING);
+    if (house_is_refusal(answer)) {
+        tell("save the morning", answer);
+        return;
+    }
+    printf("%-24s done\n", "save the morning");
+    tell("add rule 0, mark 1: 90", house_add_rule(LENT(book), ORCHARD, 0, 1, 90));
+    tell("take rule 2, mark 1", house_take_rule(LENT(book), ORCHARD, 2, 1));
+    ask(book, 3, 1);
+    tell("return to noon", house_return(LENT(book), STORE(&store), ORCHARD, NOON));
+    tell("return to the morning", house_return(LENT(book), STORE(&store), ORCHARD, MORNING));
+    ask(book, 3, 1);
+}
+
 int main(void) {
     struct book book;
     uint32_t answer = house_open(LENT(&book));
@@ -207,6 +242,8 @@ int main(void) {
     ask(&book, 3, 1);
     puts("a list of five edits for it");
     enter_spring_list(&book);
+    puts("a harder rule, and the morning's book again");
+    try_harder_rule(&book);
     printf("edits accepted: %u of the orchard, %u of the importer\n", (unsigned)book.tally[ORCHARD],
            (unsigned)book.tally[IMPORTER]);
     return 0;

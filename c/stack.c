@@ -16,6 +16,9 @@ static uint8_t links[N * N];
 static uint16_t rules[N * M], entries[N * M], disputes[M];
 static uint32_t tally[HOUSE_CALLERS];
 
+static uint8_t flags[HOUSE_NAMES], saved_links[HOUSE_NAMES * N * N];
+static uint16_t saved_rules[HOUSE_NAMES * N * M], saved_entries[HOUSE_NAMES * N * M], saved_disputes[HOUSE_NAMES * M];
+
 /* The longest list: the four edits below, in the same order, again and again. */
 static const struct house_edit four[] = {{HOUSE_ADD_RULE, N - 1, 0, 20},
                                          {HOUSE_TAKE_RULE, N - 1, 0, 0},
@@ -26,6 +29,9 @@ static struct house_edit edits[HOUSE_MOST_EDITS];
 #define TABLES links, N * N, rules, N * M, entries, N * M, tally, HOUSE_CALLERS, disputes, M
 #define BOOK N, M, TABLES
 #define EDIT BOOK, HOUSE_CALLERS - 1
+#define STORE                                                                                                         \
+    flags, HOUSE_NAMES, saved_links, HOUSE_NAMES * N * N, saved_rules, HOUSE_NAMES * N * M, saved_entries,            \
+        HOUSE_NAMES * N * M, saved_disputes, HOUSE_NAMES * M
 
 static uint64_t answer;
 
@@ -59,8 +65,15 @@ static void inspect(void) {
 static void open_book(void) {
     answer = house_open(BOOK);
 }
+static void save(void) {
+    answer = house_save(BOOK, STORE, HOUSE_NAMES - 1);
+}
+static void return_to(void) {
+    answer = house_return(BOOK, STORE, HOUSE_CALLERS - 1, HOUSE_NAMES - 1);
+}
 
-/* In an order in which each gets past its refusals; there is no dispute, but parties has then done all else. */
+/* In an order in which each gets past its refusals; there is no dispute, but parties has then done all else. The chain
+   of links is saved and, after open, returned to. */
 static const struct {
     const char *name;
     void (*make)(void);
@@ -75,7 +88,9 @@ static const struct {
     {"parties", parties, HOUSE_REFUSED_NO_DISPUTE, LEFT},
     {"refresh", refresh, 0, LEFT},
     {"inspect", inspect, HOUSE_SOUND, LEFT_TO_INSPECT},
+    {"save", save, 0, LEFT},
     {"open", open_book, 0, LEFT},
+    {"return", return_to, 0, LEFT},
 };
 
 /* Makes a call on a stack that is filled with one number, and counts from its upper end to the lowest byte that is

@@ -1,9 +1,10 @@
 /* Holds lane_find to a version of find that is written here in plain C from docs/SCOPE.md: on the edges one by one,
-   then on random books, sound and damaged. It fails where the two differ, or where an outcome came up too seldom.
+   then on random books, sound and damaged. It fails where the two differ, or where an outcome came up too seldom. And
+   house_save and house_return, which go through the tables of a store, are made on random books and stores.
 
    AddressSanitizer sees the reads of this file but not those of the library, which is compiled without it. So this file
    reads tables that malloc made exactly as long as they are, and the library is lent copies that stand against pages
-   that cannot be read: a read outside ends the test. */
+   that cannot be read or written: a read or a write outside ends the test. */
 
 #define _DEFAULT_SOURCE /* for MAP_ANONYMOUS */
 
@@ -13,6 +14,7 @@
 #include <sys/mman.h>
 #include <unistd.h>
 
+#include "house.h"
 #include "lane.h"
 
 /* ---- books */
@@ -72,6 +74,11 @@ static void free_book(struct book *book) {
     free(book->tally.bytes);
     free(book->disputes.bytes);
 }
+
+/* A store, as house.h has it: in each table the copies of all names. */
+struct store {
+    struct table flags, links, rules, entries, disputes;
+};
 
 static unsigned number_at(const struct table *table, size_t place) {
     return table->bytes[2 * place] + 256u * table->bytes[2 * place + 1];
@@ -194,7 +201,7 @@ enum { ROOM = 1 << 17 }; /* bytes between the two pages that cannot be read: a w
 enum standing { AT_THE_END, AT_THE_START, AT_AN_ODD_ADDRESS, STANDINGS };
 
 struct lent {
-    const uint8_t *links, *rules, *entries, *tally, *disputes;
+    uint8_t *links, *rules, *entries, *tally, *disputes;
 };
 
 static uint8_t *make_room(void) {
@@ -208,7 +215,7 @@ static uint8_t *make_room(void) {
 }
 
 /* Copies a table into a room of its own. A table of no bytes is NULL in one of the standings. */
-static const uint8_t *lend_table(uint8_t **room, const struct table *table, enum standing standing) {
+static uint8_t *lend_table(uint8_t **room, const struct table *table, enum standing standing) {
     if (*room == NULL) {
         *room = make_room();
     }
@@ -239,6 +246,11 @@ static struct lent lend(const struct book *book, enum standing standing) {
 
 static bool same(const struct table *table, const uint8_t *lent) {
     return table->length == 0 || memcmp(table->bytes, lent, table->length) == 0;
+}
+
+static bool same_book(const struct book *book, const struct lent *lent) {
+    return same(&book->links, lent->links) && same(&book->rules, lent->rules) && same(&book->entries, lent->entries) &&
+           same(&book->tally, lent->tally) && same(&book->disputes, lent->disputes);
 }
 
 /* ---- the comparison */
@@ -496,6 +508,12 @@ static unsigned chance(unsigned below) {
     return (unsigned)(state >> 33) % below;
 }
 
+static void fill(struct table *table) {
+    for (size_t i = 0; i < table->length; i++) {
+        table->bytes[i] = (uint8_t)chance(256);
+    }
+}
+
 /* A number from 1 to most; the two ends come often. */
 static unsigned size_up_to(unsigned most) {
     unsigned way = chance(8);
@@ -569,9 +587,7 @@ static struct book sound_book(void) {
             put_number(&book.disputes, mark, number_at(&book.disputes, mark) + (entry >= 257));
         }
     }
-    for (size_t i = 0; i < book.tally.length; i++) {
-        book.tally.bytes[i] = (uint8_t)chance(256);
-    }
+    fill(&book.tally);
     return book;
 }
 
@@ -688,8 +704,7 @@ static void ask(const struct book *book, unsigned questions, bool sound) {
             mistake("a sound book", book, kind, mark, 10, 0);
         }
     }
-    if (!same(&book->links, lent.links) || !same(&book->rules, lent.rules) || !same(&book->entries, lent.entries) ||
-        !same(&book->tally, lent.tally) || !same(&book->disputes, lent.disputes)) {
+    if (!same_book(book, &lent)) {
         mistake("a table was written", book, 0, 0, 0, 0);
     }
 }
@@ -708,8 +723,153 @@ static void random_books(unsigned books) {
     }
 }
 
+/* ---- save and return */
+
+struct lent_store {
+    uint8_t *flags, *links, *rules, *entries, *disputes;
+};
+
+static struct lent_store lend_store(const struct store *store, enum standing standing) {
+    static uint8_t *rooms[5];
+    struct lent_store lent = {
+        lend_table(&rooms[0], &store->flags, standing),
+        lend_table(&rooms[1], &store->links, standing),
+        lend_table(&rooms[2], &store->rules, standing),
+        lend_table(&rooms[3], &store->entries, standing),
+        lend_table(&rooms[4], &store->disputes, standing),
+    };
+    return lent;
+}
+
+/* A store for a book, which holds anything. */
+static struct store any_store(const struct book *book) {
+    struct store store = {
+        make_table(HOUSE_NAMES),
+        make_table(HOUSE_NAMES * book->links.length),
+        make_table(HOUSE_NAMES * book->rules.length),
+        make_table(HOUSE_NAMES * book->entries.length),
+        make_table(HOUSE_NAMES * book->disputes.length),
+    };
+    fill(&store.flags);
+    fill(&store.links);
+    fill(&store.rules);
+    fill(&store.entries);
+    fill(&store.disputes);
+    return store;
+}
+
+static void free_store(struct store *store) {
+    free(store->flags.bytes);
+    free(store->links.bytes);
+    free(store->rules.bytes);
+    free(store->entries.bytes);
+    free(store->disputes.bytes);
+}
+
+/* The same memory as numbers, which stand at addresses that are right for them. */
+static uint16_t *numbers(uint8_t *bytes) {
+    return (uint16_t *)(void *)bytes;
+}
+
+#define LENT(book, lent)                                                                                              \
+    (uint16_t)(book)->n, (uint16_t)(book)->m, (lent)->links, (book)->links.length, numbers((lent)->rules),            \
+        (book)->rules.length / 2, numbers((lent)->entries), (book)->entries.length / 2,                               \
+        (uint32_t *)(void *)(lent)->tally, (book)->tally.length / 4, numbers((lent)->disputes),                       \
+        (book)->disputes.length / 2
+#define LENT_STORE(store, lent)                                                                                       \
+    (lent)->flags, (store)->flags.length, (lent)->links, (store)->links.length, numbers((lent)->rules),               \
+        (store)->rules.length / 2, numbers((lent)->entries), (store)->entries.length / 2, numbers((lent)->disputes),  \
+        (store)->disputes.length / 2
+
+static bool same_store(const struct store *store, const struct lent_store *lent) {
+    return same(&store->flags, lent->flags) && same(&store->links, lent->links) && same(&store->rules, lent->rules) &&
+           same(&store->entries, lent->entries) && same(&store->disputes, lent->disputes);
+}
+
+static void put_copy(struct table *copies, unsigned name, const struct table *table) {
+    memcpy(copies->bytes + name * table->length, table->bytes, table->length);
+}
+
+/* The book is saved under a name and overwritten, but for the tally, and the name is returned to: the tables are the
+   same again, the tally has one more, and as many entries differ as were changed. */
+static void save_and_return(struct book *book, struct store *store, unsigned name, enum standing standing) {
+    struct lent lent = lend(book, standing);
+    struct lent_store lent_store = lend_store(store, standing);
+    unsigned caller = chance(HOUSE_CALLERS), changed = 0;
+    uint32_t answer = house_save(LENT(book, &lent), LENT_STORE(store, &lent_store), (uint16_t)name), tally;
+    store->flags.bytes[name] = 1;
+    put_copy(&store->links, name, &book->links);
+    put_copy(&store->rules, name, &book->rules);
+    put_copy(&store->entries, name, &book->entries);
+    put_copy(&store->disputes, name, &book->disputes);
+    if (answer != 0 || !same_book(book, &lent) || !same_store(store, &lent_store)) {
+        mistake("house_save", book, name, 0, answer, 0);
+    }
+    for (unsigned place = 0; place < book->n * book->m; place++) {
+        if (chance(8) == 0) {
+            numbers(lent.entries)[place] ^= 1;
+            changed++;
+        }
+    }
+    memset(lent.links, (int)chance(3), book->links.length);
+    memset(lent.rules, (int)chance(256), book->rules.length);
+    memset(lent.disputes, (int)chance(256), book->disputes.length);
+    answer = house_return(LENT(book, &lent), LENT_STORE(store, &lent_store), (uint16_t)caller, (uint16_t)name);
+    memcpy(&tally, book->tally.bytes + 4 * caller, 4);
+    tally += tally < UINT32_MAX;
+    memcpy(book->tally.bytes + 4 * caller, &tally, 4);
+    if (answer != changed || !same_book(book, &lent) || !same_store(store, &lent_store)) {
+        mistake("house_return", book, name, caller, answer, changed);
+    }
+}
+
+/* Both calls with one of the tables one element shorter or longer, which is refused, and nothing is written. */
+static void refuse_length(const struct book *book, const struct store *store, enum standing standing) {
+    struct lent lent = lend(book, standing);
+    struct lent_store lent_store = lend_store(store, standing);
+    uint16_t name = (uint16_t)chance(HOUSE_NAMES), caller = (uint16_t)chance(HOUSE_CALLERS);
+    uint32_t saved = house_save(LENT(book, &lent), LENT_STORE(store, &lent_store), name);
+    uint32_t returned = house_return(LENT(book, &lent), LENT_STORE(store, &lent_store), caller, name);
+    if (saved != HOUSE_REFUSED_BOOK || returned != HOUSE_REFUSED_BOOK || !same_book(book, &lent) ||
+        !same_store(store, &lent_store)) {
+        mistake("a length of a store", book, name, caller, saved, returned);
+    }
+}
+
+/* Of each table, which gets its length back, the last element is then 0. */
+static void try_lengths(struct book *book, struct store *store, enum standing standing) {
+    struct table *const tables[] = {&book->links,   &book->rules,  &book->entries,  &book->tally,     &book->disputes,
+                                    &store->flags,  &store->links, &store->rules,   &store->entries,  &store->disputes};
+    static const size_t elements[] = {1, 2, 2, 4, 2, 1, 1, 2, 2, 2};
+    for (unsigned i = 0; i < 10; i++) {
+        size_t right = tables[i]->length;
+        resize(tables[i], right - elements[i]);
+        refuse_length(book, store, standing);
+        resize(tables[i], right + elements[i]);
+        if (tables[i]->length <= ROOM) {
+            refuse_length(book, store, standing);
+        }
+        resize(tables[i], right);
+    }
+}
+
+/* Tables of numbers stand at even addresses, so there are two standings here. */
+static void random_stores(unsigned books) {
+    for (unsigned i = 0; i < books; i++) {
+        struct book book = sound_book();
+        struct store store = any_store(&book);
+        for (unsigned turn = 0; turn < 4; turn++) {
+            unsigned name = turn < 2 ? chance(HOUSE_NAMES) : HOUSE_NAMES - 1;
+            save_and_return(&book, &store, name, turn % 2 == 0 ? AT_THE_END : AT_THE_START);
+        }
+        try_lengths(&book, &store, i % 2 == 0 ? AT_THE_END : AT_THE_START);
+        free_book(&book);
+        free_store(&store);
+    }
+}
+
 int main(void) {
-    enum { BOOKS = 4000, LEAST = 500 };
+    enum { BOOKS = 4000, STORES = 200, LEAST = 500 };
     edges_of_entries();
     edges_of_handling();
     edges_of_counts();
@@ -726,6 +886,7 @@ int main(void) {
             printf("WRONG: that is fewer than %d\n", LEAST);
         }
     }
-    printf("%d random books done, %lu mistakes in all\n", BOOKS, mistakes);
+    random_stores(STORES);
+    printf("%d random books and %d with stores done, %lu mistakes in all\n", BOOKS, STORES, mistakes);
     return mistakes == 0 ? EXIT_SUCCESS : EXIT_FAILURE;
 }

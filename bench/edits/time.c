@@ -1,6 +1,6 @@
-/* Times the four edits, refresh and a list of edits of the static library against the twin in C and against the base, the library of another commit, in one run: on
-   books of three sizes where parents differ at few, some and many places. All do the same calls on books of their own, batch by batch in turns; their answers and
-   tables are compared as they go. The list is timed against its edits by single calls too. */
+/* Times the four edits, refresh, save, return and a list of edits of the static library against the twin in C and against the base, the library of another commit, in
+   one run: on books of three sizes where parents differ at few, some and many places. All do the same calls on books of their own, batch by batch in turns; their
+   answers and tables are compared as they go. The list is timed against its edits by single calls too. */
 #define _POSIX_C_SOURCE 199309L /* for clock_gettime */
 #include "base.h"
 #include "house.h"
@@ -11,7 +11,7 @@
 #include <time.h>
 
 enum { PLACES = 48, ROUNDS = 60, REPEATS = 9, LIBRARY = 0, TWIN = 1, BASE = 2, SIDES = 3, CALLS = 5 };
-enum { LIST = 400, LIST_ROUNDS = 12 };
+enum { LIST = 400, LIST_ROUNDS = 12, STATE_ROUNDS = 20 };
 
 static uint64_t state = 88172645463325252ull;
 static uint32_t random_below(uint32_t k) {
@@ -34,7 +34,7 @@ static void *zeros(size_t count, size_t size) {
 }
 
 static struct book new_book(uint16_t n, uint16_t m, size_t disputes_len) {
-    struct book b = {n, m, 0, 0, 0, 0, 0, (size_t)n * n, (size_t)n * m, (size_t)n * m, CALLERS, disputes_len};
+    struct book b = {n, m, 0, 0, 0, 0, 0, (size_t)n * n, (size_t)n * m, (size_t)n * m, CALLERS, disputes_len, 0};
     b.links = zeros(b.links_len, 1);
     b.rules = zeros(b.rules_len, 2);
     b.entries = zeros(b.entries_len, 2);
@@ -74,7 +74,7 @@ static void clear(const struct book *b) {
     memset(b->disputes, 0, 2 * b->disputes_len);
 }
 
-/* One edit of a caller: a rule at (x, y) or a link from x to y, added with a value or taken. */
+/* One edit of a caller: a rule at (x, y) or a link from x to y, added with a value or taken; or x is the name of a state. */
 struct edit {
     uint16_t caller, x, y, value;
 };
@@ -341,11 +341,137 @@ static int run_lists(const struct shape *s) {
     return 0;
 }
 
+/* ---- save and return */
+
+static struct store new_store(const struct book *b) {
+    struct store s = {0, 0, 0, 0, 0, NAMES, NAMES * b->links_len, NAMES * b->rules_len, NAMES * b->entries_len, NAMES * b->disputes_len};
+    s.flags = zeros(s.flags_len, 1);
+    s.links = zeros(s.links_len, 1);
+    s.rules = zeros(s.rules_len, 2);
+    s.entries = zeros(s.entries_len, 2);
+    s.disputes = zeros(s.disputes_len, 2);
+    return s;
+}
+
+static void free_store(const struct store *s) {
+    free(s->flags);
+    free(s->links);
+    free(s->rules);
+    free(s->entries);
+    free(s->disputes);
+}
+
+static void copy_store(const struct store *from, const struct store *to) {
+    memcpy(to->flags, from->flags, from->flags_len);
+    memcpy(to->links, from->links, from->links_len);
+    memcpy(to->rules, from->rules, 2 * from->rules_len);
+    memcpy(to->entries, from->entries, 2 * from->entries_len);
+    memcpy(to->disputes, from->disputes, 2 * from->disputes_len);
+}
+
+static int same_store(const struct store *a, const struct store *b) {
+    return !memcmp(a->flags, b->flags, a->flags_len) && !memcmp(a->links, b->links, a->links_len) && !memcmp(a->rules, b->rules, 2 * a->rules_len) &&
+           !memcmp(a->entries, b->entries, 2 * a->entries_len) && !memcmp(a->disputes, b->disputes, 2 * a->disputes_len);
+}
+
+#define STORE(s) \
+    (s)->flags, (s)->flags_len, (s)->links, (s)->links_len, (s)->rules, (s)->rules_len, (s)->entries, (s)->entries_len, (s)->disputes, (s)->disputes_len
+
+static uint32_t house_6(const struct book *b, struct edit e) { return house_return(TABLES(b), STORE(b->store), e.caller, e.x); }
+static uint32_t house_7(const struct book *b, struct edit e) { return house_save(TABLES(b), STORE(b->store), e.x); }
+static uint32_t twin_6(const struct book *b, struct edit e) { return twin_return(b, e.caller, e.x); }
+static uint32_t twin_7(const struct book *b, struct edit e) { return twin_save(b, e.x); }
+#ifdef BASE_STATES
+static uint32_t base_6(const struct book *b, struct edit e) { return base_return(TABLES(b), STORE(b->store), e.caller, e.x); }
+static uint32_t base_7(const struct book *b, struct edit e) { return base_save(TABLES(b), STORE(b->store), e.x); }
+#endif
+
+/* Return comes first: the saves after it leave one book under all names. */
+enum { STATE_CALLS = 2 };
+static const char *const state_name[STATE_CALLS] = {"return", "save"};
+static const struct {
+    const char *name;
+    call *make[STATE_CALLS];
+} state_sides[] = {
+    {"library", {house_6, house_7}},
+    {"C", {twin_6, twin_7}},
+#ifdef BASE_STATES
+    {"base", {base_6, base_7}},
+#endif
+};
+enum { STATE_SIDES = sizeof state_sides / sizeof *state_sides };
+
+/* The same new book and store for all, with six rules more under each name than under the one before, and any names and callers for the calls. */
+static double renew_states(const struct book *books, const struct shape *s, struct edit *edits) {
+    struct edit rules[PLACES], links[PLACES];
+    double differ = renew(books, 1, s);
+    choose(s->n, s->m, rules, links);
+    for (int i = 0; i < PLACES; i++) {
+        if (house_is_refusal(house_1(&books[0], rules[i]))) abort();
+        if (house_7(&books[0], (struct edit){0, (uint16_t)(i * NAMES / PLACES), 0, 0}) != 0) abort();
+        edits[i] = (struct edit){rules[i].caller, (uint16_t)random_below(NAMES), 0, 0};
+    }
+    for (int i = 1; i < STATE_SIDES; i++) {
+        copy(&books[0], &books[i]);
+        copy_store(books[0].store, books[i].store);
+    }
+    return differ;
+}
+
+/* A batch of returns and then one of saves by every side, and the times added up. Whether the answers, books and stores are the same. */
+static int state_round(const struct book *books, const struct edit *edits, int first, double times[][STATE_CALLS]) {
+    uint64_t sum[STATE_SIDES] = {0};
+    int alike = 1;
+    for (int k = 0; k < STATE_CALLS; k++) {
+        for (int i = 0; i < STATE_SIDES; i++) {
+            int side = (first + i) % STATE_SIDES;
+            times[side][k] += batch(state_sides[side].make[k], &books[side], edits, &sum[side]);
+        }
+        for (int i = 1; i < STATE_SIDES; i++)
+            alike &= sum[i] == sum[0] && same(&books[0], &books[i]) && same_store(books[0].store, books[i].store);
+    }
+    return alike;
+}
+
+static int run_states(const struct shape *s) {
+    struct book books[STATE_SIDES];
+    struct store stores[STATE_SIDES];
+    struct edit edits[PLACES];
+    double times[STATE_SIDES][STATE_CALLS][REPEATS] = {{{0}}}, differ = 0;
+    for (int i = 0; i < STATE_SIDES; i++) {
+        books[i] = new_book(s->n, s->m, s->m);
+        stores[i] = new_store(&books[i]);
+        books[i].store = &stores[i];
+    }
+    for (int r = 0; r < REPEATS; r++) {
+        double sums[STATE_SIDES][STATE_CALLS] = {{0}};
+        for (int round = 0; round < STATE_ROUNDS; round++) {
+            differ += renew_states(books, s, edits) / (REPEATS * STATE_ROUNDS);
+            if (!state_round(books, edits, round, sums)) return printf("%u x %u: save or return differs\n", s->n, s->m), 1;
+        }
+        for (int i = 0; i < STATE_SIDES * STATE_CALLS; i++) times[i / STATE_CALLS][i % STATE_CALLS][r] = sums[i / STATE_CALLS][i % STATE_CALLS] / STATE_ROUNDS;
+    }
+    for (int k = 0; k < STATE_CALLS; k++) {
+        double x = median(times[0][k], REPEATS);
+        printf("%3u x %2u  %-4s (%2.0f %%)  %-9s  %6.2f us", s->n, s->m, s->much, differ, state_name[k], x);
+        for (int i = 1; i < STATE_SIDES; i++) {
+            double y = median(times[i][k], REPEATS);
+            printf("  %s %6.2f us  ratio %.2f", state_sides[i].name, y, x / y);
+        }
+        printf("\n");
+    }
+    for (int i = 0; i < STATE_SIDES; i++) {
+        free_book(&books[i]);
+        free_store(&stores[i]);
+    }
+    return 0;
+}
+
 int main(void) {
     static const struct shape shapes[] = {{24, 16, "few", 2, 12},  {24, 16, "some", 3, 4},   {24, 16, "many", 14, 3},
                                           {64, 32, "few", 2, 20},  {64, 32, "some", 3, 8},   {64, 32, "many", 8, 6},
                                           {128, 64, "few", 2, 26}, {128, 64, "some", 3, 13}, {128, 64, "many", 6, 8}};
     for (size_t i = 0; i < sizeof shapes / sizeof *shapes; i++)
-        if (run(&shapes[i]) || run_lists(&shapes[i])) return EXIT_FAILURE;
+        if (run(&shapes[i]) || run_states(&shapes[i]) || run_lists(&shapes[i])) return EXIT_FAILURE;
     return EXIT_SUCCESS;
 }

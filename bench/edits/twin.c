@@ -1,4 +1,4 @@
-/* The four edits, a list of them and refresh by hand, as quick as we could make them in plain C99: links read eight bytes at a time, the kinds put in
+/* The four edits, a list of them, refresh, save and return by hand, as quick as we could make them in plain C99: links read eight bytes at a time, the kinds put in
    order by one climb, entries worked out a row of marks at a time, where parents differ by the rule kinds left, and after an edit only for the kinds
    that it reaches. It counts on a machine that stores the lowest byte of a number first. */
 #include "twin.h"
@@ -41,6 +41,12 @@ static int shaped(const struct book *b) {
     size_t places = (size_t)b->n * b->m;
     return b->n >= 1 && b->n <= MOST && b->m >= 1 && b->m <= MARKS && b->links_len == (size_t)b->n * b->n && b->rules_len == places &&
            b->entries_len == places && b->tally_len == CALLERS && b->disputes_len == b->m;
+}
+
+static int stored(const struct book *b) {
+    const struct store *s = b->store;
+    return s->flags_len == NAMES && s->links_len == NAMES * b->links_len && s->rules_len == NAMES * b->rules_len &&
+           s->entries_len == NAMES * b->entries_len && s->disputes_len == NAMES * b->disputes_len;
 }
 
 /* Eight bytes, each 0 or 1, as eight bits: byte i comes to bit 56 + i of the product. */
@@ -346,5 +352,52 @@ uint32_t twin_refresh(const struct book *b) {
     read_rules(b, &v);
     memset(b->disputes, 0, b->m * sizeof *b->disputes);
     for (size_t i = b->n; i-- > 0;) count += settle_row(b, &v, v.order[i], 0);
+    return count;
+}
+
+/* The state under a name, as a book with the tally of this one. */
+static struct book state(const struct book *b, size_t name) {
+    struct book copies = *b;
+    copies.links = b->store->links + name * b->links_len;
+    copies.rules = b->store->rules + name * b->rules_len;
+    copies.entries = b->store->entries + name * b->entries_len;
+    copies.disputes = b->store->disputes + name * b->disputes_len;
+    return copies;
+}
+
+/* All but entries and tally. */
+static void copy(const struct book *from, const struct book *to) {
+    memcpy(to->links, from->links, from->links_len);
+    memcpy(to->rules, from->rules, from->rules_len * sizeof *from->rules);
+    memcpy(to->disputes, from->disputes, from->disputes_len * sizeof *from->disputes);
+}
+
+uint32_t twin_save(const struct book *b, uint16_t name) {
+    if (!shaped(b) || !stored(b)) return REFUSED + 1;
+    if (name >= NAMES) return REFUSED + 14;
+    struct book to = state(b, name);
+    copy(b, &to);
+    memcpy(to.entries, b->entries, b->entries_len * sizeof *b->entries);
+    b->store->flags[name] = 1;
+    return 0;
+}
+
+/* The entries are compared as they are copied. There are fewer than 65536, so 16 bits will do for the count. */
+uint32_t twin_return(const struct book *b, uint16_t caller, uint16_t name) {
+    struct view v;
+    if (!shaped(b) || !stored(b)) return REFUSED + 1;
+    if (caller >= CALLERS) return REFUSED + 13;
+    if (name >= NAMES) return REFUSED + 14;
+    if (b->store->flags[name] == 0) return REFUSED + 15;
+    struct book from = state(b, name);
+    if (!sound(&from, &v)) return REFUSED + 5;
+    copy(&from, b);
+    const uint16_t *restrict saved = from.entries;
+    uint16_t *restrict entries = b->entries, count = 0;
+    for (size_t i = 0, many = b->entries_len; i < many; i++) {
+        count = (uint16_t)(count + (entries[i] != saved[i]));
+        entries[i] = saved[i];
+    }
+    add_to_tally(b, caller);
     return count;
 }

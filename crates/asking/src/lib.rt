@@ -1,18 +1,17 @@
-// The checks that the calls begin with: refusals 1, 13, 2, 3 and 4.
+// The checks that the calls begin with: refusals 13, 2, 3 and 4, and 1 before them.
 use inheritance::CheckedKind;
 use inheritance::CheckedMark;
 use inheritance::Kind;
 use inheritance::Mark;
+use measuring::shape;
 use tables::Caller;
 use tables::CheckedCaller;
 use tables::Refusal;
-use tables::TALLIES;
 ghost use mathlib.Core.Path.{_≡_};
 ghost use mathlib.Core.Bool.{_&&_};
 ghost use lib.Dec.{eqb};
 ghost use Rattle.inheritance.specs.Checked.{kindBelow, markBelow};
-ghost use Rattle.tables.specs.Controller.{shaped-bytes};
-ghost use Rattle.tables.specs.Tables.{lent, sized, shaped};
+ghost use Rattle.tables.specs.Tables.{lent};
 ghost use Rattle.asking.specs.Ask.{askedAt, askedRule, askedLink, checked, checkedCaller};
 
 // A kind and a mark of the book that a call is put to, or its refusal.
@@ -31,84 +30,6 @@ pub enum LinkAsked {
 pub enum CallerAsked {
     By(Caller),
     Refused(Refusal),
-}
-
-// Whether n and m are in their ranges and the five tables have exactly their lengths, which are given. A number of 16 bits
-// takes short elements of its table, and one of 32 bits long. The && is for speed: with & in its place the find of the line
-// controllers takes a tenth longer.
-fn sized(
-    short: u16,
-    long: u16,
-    n: u16,
-    m: u16,
-    links: usize,
-    rules: usize,
-    entries: usize,
-    tally: usize,
-    disputes: usize,
-) -> bool
-    ensures { λ r. ⌜ r ≡ sized short long n m links rules entries tally disputes ⌝ }
-{
-    let places = short as usize * (n as usize * m as usize);
-    (1 <= n)
-        & (n <= Kind::MOST)
-        & (1 <= m)
-        & (m <= Mark::MOST)
-        & (links == n as usize * n as usize)
-        & (rules == places)
-        && (entries == places)
-            & (tally == long as usize * TALLIES)
-            & (disputes == short as usize * m as usize)
-}
-
-// Whether tables of numbers have the lengths of a book of n kinds and m marks.
-pub fn shape(
-    n: u16,
-    m: u16,
-    links: &[u8],
-    rules: &[u16],
-    entries: &[u16],
-    tally: &[u32],
-    disputes: &[u16],
-) -> bool
-    ensures { λ r. ⌜ r ≡ shaped n m (lent (now (links .entry)) (now (rules .entry)) (now (entries .entry)) (now (tally .entry)) (now (disputes .entry))) ⌝ }
-{
-    sized(
-        1,
-        1,
-        n,
-        m,
-        links.len(),
-        rules.len(),
-        entries.len(),
-        tally.len(),
-        disputes.len(),
-    )
-}
-
-// The same of tables of bytes.
-pub fn shape_bytes(
-    n: u16,
-    m: u16,
-    links: &[u8],
-    rules: &[u8],
-    entries: &[u8],
-    tally: &[u8],
-    disputes: &[u8],
-) -> bool
-    ensures { λ r. ⌜ r ≡ shaped-bytes n m (lent (now (links .entry)) (now (rules .entry)) (now (entries .entry)) (now (tally .entry)) (now (disputes .entry))) ⌝ }
-{
-    sized(
-        2,
-        4,
-        n,
-        m,
-        links.len(),
-        rules.len(),
-        entries.len(),
-        tally.len(),
-        disputes.len(),
-    )
 }
 
 // Refusals 2 and 3, in this order, of a call on a kind and a mark.

@@ -16,6 +16,8 @@ pub use inspecting::inspect;
 pub use lists::make_list;
 pub use renewing::open;
 pub use renewing::refresh;
+pub use returning::return_to;
+pub use saving::save;
 
 // The call is carried out on the tables. It is the step of the promise between two books.
 pub fn carry_out(

@@ -6,9 +6,12 @@ use packing::pack_edited;
 use packing::pack_inspected;
 use packing::pack_opened;
 use packing::pack_pair;
+use packing::pack_saved;
+use stores::Name;
 use tables::Caller;
 use tables::Edit;
 ghost use mathlib.Core.Path.{_≡_};
+ghost use Rattle.stores.specs.Store.{lentStore, save, returnTo};
 ghost use Rattle.tables.specs.Calls.{openBook, addRule, takeRule, addLink, takeLink, parties, inspect, refresh};
 ghost use Rattle.tables.specs.Lists.{makeList};
 ghost use Rattle.tables.specs.Tables.{lent};
@@ -205,4 +208,81 @@ pub extern "C" fn house_make_list(
 {
     let by = Caller(caller);
     pack_carried(calls::make_list(n, m, edits, links, rules, entries, tally, disputes, by))
+}
+
+// Save: only the store is written.
+#[no_mangle]
+pub extern "C" fn house_save(
+    n: u16,
+    m: u16,
+    links: &[u8],
+    rules: &[u16],
+    entries: &[u16],
+    tally: &[u32],
+    disputes: &[u16],
+    flags: &mut [u8],
+    saved_links: &mut [u8],
+    saved_rules: &mut [u16],
+    saved_entries: &mut [u16],
+    saved_disputes: &mut [u16],
+    name: u16,
+) -> u32
+    ensures { λ r. ⌜ Answers packedOpened (save n m (lent (now (links .entry)) (now (rules .entry)) (now (entries .entry)) (now (tally .entry)) (now (disputes .entry))) (lentStore (now (flags .entry)) (now («saved_links» .entry)) (now («saved_rules» .entry)) (now («saved_entries» .entry)) (now («saved_disputes» .entry))) name) r (lentStore (now (flags .exit)) (now («saved_links» .exit)) (now («saved_rules» .exit)) (now («saved_entries» .exit)) (now («saved_disputes» .exit))) ⌝ }
+{
+    let under = Name(name);
+    pack_saved(calls::save(
+        n,
+        m,
+        links,
+        rules,
+        entries,
+        tally,
+        disputes,
+        flags,
+        saved_links,
+        saved_rules,
+        saved_entries,
+        saved_disputes,
+        under,
+    ))
+}
+
+// Return: only the book is written.
+#[no_mangle]
+pub extern "C" fn house_return(
+    n: u16,
+    m: u16,
+    links: &mut [u8],
+    rules: &mut [u16],
+    entries: &mut [u16],
+    tally: &mut [u32],
+    disputes: &mut [u16],
+    flags: &[u8],
+    saved_links: &[u8],
+    saved_rules: &[u16],
+    saved_entries: &[u16],
+    saved_disputes: &[u16],
+    caller: u16,
+    name: u16,
+) -> u32
+    ensures { λ r. ⌜ Answers packedEdited (returnTo n m (lent (now (links .entry)) (now (rules .entry)) (now (entries .entry)) (now (tally .entry)) (now (disputes .entry))) (lentStore (now (flags .entry)) (now («saved_links» .entry)) (now («saved_rules» .entry)) (now («saved_entries» .entry)) (now («saved_disputes» .entry))) caller name) r (lent (now (links .exit)) (now (rules .exit)) (now (entries .exit)) (now (tally .exit)) (now (disputes .exit))) ⌝ }
+{
+    let by = Caller(caller);
+    let to = Name(name);
+    pack_edited(calls::return_to(
+        n,
+        m,
+        links,
+        rules,
+        entries,
+        tally,
+        disputes,
+        flags,
+        saved_links,
+        saved_rules,
+        saved_entries,
+        saved_disputes,
+        by,
+        to,
+    ))
 }

@@ -88,7 +88,7 @@ pub fn inspect(
 ) -> Inspected
     ensures { λ r. ⌜ inspected r ≡ inspect n m (lent (now (links .entry)) (now (rules .entry)) (now (entries .entry)) (now (tally .entry)) (now (disputes .entry))) .reply ⌝ }
 {
-    let shaped = asking::shape(n, m, links, rules, entries, tally, disputes);
+    let shaped = measuring::shape(n, m, links, rules, entries, tally, disputes);
     if !shaped {
         return Inspected::Refused(Refusal::Shape);
     }

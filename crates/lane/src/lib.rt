@@ -61,7 +61,7 @@ pub extern "C" fn lane_find(
 ) -> u32
     ensures { λ r. ⌜ r ≡ findPacked n m (lent (now (links .entry)) (now (rules .entry)) (now (entries .entry)) (now (tally .entry)) (now (disputes .entry))) kind mark ⌝ }
 {
-    let shaped = asking::shape_bytes(n, m, links, rules, entries, tally, disputes);
+    let shaped = measuring::shape_bytes(n, m, links, rules, entries, tally, disputes);
     if !shaped {
         return Refusal::Shape.number() as u32;
     }

@@ -1,16 +1,15 @@
 -- What the calls answer as one number, for programs in C: of 32 bits, and that of a list of edits of 64. A refusal is 65,536 + its number.
---     packedOpened    0 for an accepted open
+--     packedOpened    0 for an accepted open or save
 --     packedEdited    the count
 --     packedPair      256 × one + the other
 --     packedListing   accepted edits in the lowest 16 bits, the sum of their counts from bit 32 on; between them 0, or 256 + the number of the edit's refusal
---     Answers         a call's outcome as programs in C get it: one number, and the tables that it leaves
+--     Answers         a call's outcome as programs in C get it: one number, and the tables that it leaves, of a book or of a store
 --     packedFault     sound is 0; a link byte's place, a kind, an entry's place and a mark are told apart by their upper half
 -- Assumes nothing.
 use mathlib.Core.Path.{_≡_}
 use Prim.Native.Nat.{ℕ, _+_, _*_}
-use Rattle.tables.specs.Calls.{Outcome}
+use Rattle.tables.specs.Calls.{OutcomeOn}
 use Rattle.tables.specs.Reply.{Reply, refused, given, Fault, TwoKinds, Listing, whole, stopped}
-use Rattle.tables.specs.Tables.{Tables}
 
 abbrev pub packedOpened : Reply (Unit {0}) → ℕ
 packedOpened (refused number) = 65536 + number
@@ -38,6 +37,6 @@ packedListing (given (whole accepted changed)) = 4294967296 * changed + accepted
 packedListing (given (stopped accepted changed number)) = 4294967296 * changed + 65536 * (256 + number) + accepted
 
 -- the number that is returned and the tables at the end are those of the outcome
-pub record Answers {A : Type 0} (pack : Reply A → ℕ) (outcome : Outcome A) (number : ℕ) (tables : Tables) : Type 0 where
+pub record Answers {T A : Type 0} (pack : Reply A → ℕ) (outcome : OutcomeOn T A) (number : ℕ) (tables : T) : Type 0 where
   pub returned : number ≡ pack (outcome .reply)
   pub left : tables ≡ outcome .tables

@@ -1,4 +1,5 @@
 // The answers of the calls as one number each, for programs in C.
+use stores::Saved;
 use tables::Carried;
 use tables::Edited;
 use tables::Inspected;
@@ -7,6 +8,7 @@ use tables::Pair;
 use tables::Refusal;
 ghost use mathlib.Core.Path.{_≡_};
 ghost use Prim.Native.Nat.{_+_};
+ghost use Rattle.stores.specs.Store.{saved};
 ghost use Rattle.tables.specs.Reply.{refusalNumber, opened, edited, paired, inspected, carried};
 ghost use Rattle.packing.specs.Packed.{packedOpened, packedEdited, packedPair, packedFault, packedListing};
 
@@ -27,7 +29,17 @@ pub fn pack_opened(reply: Opened) -> u32
     }
 }
 
-// What an edit or a refresh answers as a number.
+// What save answers as a number.
+pub fn pack_saved(reply: Saved) -> u32
+    ensures { λ r. ⌜ r ≡ packedOpened (saved reply) ⌝ }
+{
+    match reply {
+        Saved::Done => 0,
+        Saved::Refused(why) => pack_refusal(why),
+    }
+}
+
+// What an edit, a return or a refresh answers as a number.
 pub fn pack_edited(reply: Edited) -> u32
     ensures { λ r. ⌜ r ≡ packedEdited (edited reply) ⌝ }
 {

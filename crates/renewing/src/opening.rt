@@ -39,7 +39,7 @@ pub fn open(
     ensures { λ r. ⌜ leaves (opened r) (lent (now (links .exit)) (now (rules .exit)) (now (entries .exit)) (now (tally .exit)) (now (disputes .exit)))
         ≡ openBook n m (lent (now (links .entry)) (now (rules .entry)) (now (entries .entry)) (now (tally .entry)) (now (disputes .entry))) ⌝ }
 {
-    let shaped = asking::shape(n, m, links, rules, entries, tally, disputes);
+    let shaped = measuring::shape(n, m, links, rules, entries, tally, disputes);
     if shaped {
         clear_bytes(links);
         clear(rules);

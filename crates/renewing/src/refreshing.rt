@@ -22,7 +22,7 @@ pub fn refresh(
     ensures { λ r. ⌜ leaves (edited r) (lent (now (links .entry)) (now (rules .entry)) (now (entries .exit)) (now (tally .entry)) (now (disputes .exit)))
         ≡ refresh n m (lent (now (links .entry)) (now (rules .entry)) (now (entries .entry)) (now (tally .entry)) (now (disputes .entry))) ⌝ }
 {
-    let shaped = asking::shape(n, m, links, rules, entries, tally, disputes);
+    let shaped = measuring::shape(n, m, links, rules, entries, tally, disputes);
     if !shaped {
         return Edited::Refused(Refusal::Shape);
     }

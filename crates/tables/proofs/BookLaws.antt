@@ -1,10 +1,9 @@
--- What holds of a book after any list of calls since it was just opened.
---     stays-shaped, stays-sound    its tables have their lengths and are sound
---     stays-counted                the dispute count of each mark is the number of kinds whose entry for it is 257 or more
---     books-agree                  demand 3, between two books of the same n and m: where every place of links and of rules holds the same number in both
---                                  books, every place of entries and of the dispute counts does too
---     Consistent                   the invariant that they rest on; opened-consistent, call-consistent: an accepted open gives it, every call keeps it
---     tested-consistent            tables that pass the checks of shape and soundness have it; edit-consistent: every edit keeps it
+-- The books whose tables have their lengths and are sound.
+--     Consistent             such a book; opened-consistent, call-consistent: an accepted open gives one, every call keeps it
+--     tested-consistent      tables that pass the checks of shape and soundness are one; edit-consistent: every edit keeps it
+--     one-size, same-size    only one n and one m fit a book's tables
+--     consistent-agree       between two of the same n and m: where every place of links and of rules holds the same number in both, every place of
+--                            entries and of the dispute counts does too
 -- Assumes nothing.
 use mathlib.Core.Path.{_≡_, refl, sym, ap, ap₂, _∙_, subst}
 use mathlib.Core.Bool.{Bool, true, _&&_, not, false≢true, and-eq-true-iff}
@@ -16,10 +15,10 @@ use native.Mathlib.Nat.{lt-of-le-of-lt, mul-le-mul-left, mul-lt-mul-of-pos-right
 use native.Mathlib.Numerals.{add-one}
 use native.Mathlib.Decide.{decLt}
 use borrow.Author.Tests.{ltb-true, not-true}
-use lib.Dec.{eqb, leb, ltb}
+use lib.Dec.{eqb, ltb}
 use lib.ListN.{length, getD, replicate, set, length-set, replicate-append-replicate}
 use lib.Seq.{ext-getD}
-use Rattle.inheritance.specs.Above.{Chain, link, step, Acyclic, count}
+use Rattle.inheritance.specs.Above.{Chain, link, step, Acyclic}
 use Rattle.inheritance.proofs.AboveLaws.{chainless-acyclic, count-none}
 use Rattle.inheritance.proofs.LookupLaws.{lookup-bare}
 use Rattle.tables.specs.Entry.{entryOf}
@@ -28,14 +27,14 @@ use Rattle.tables.specs.Tables.{Tables, lent, shaped, LengthsOf, upOf, o
 use Rattle.tables.specs.Tables.{is-dispute, disputesAt, disputesOf}
 use Rattle.tables.specs.Calls as calls
 use Rattle.tables.specs.Calls.{zeros}
-use Rattle.tables.specs.Lists.{Change, editOutcome, run}
+use Rattle.tables.specs.Lists.{Change, editOutcome}
 use Rattle.tables.specs.Books.{Request, Call, answerTo, after, Agree}
 use Rattle.tables.specs.Lists.Change.{addRule, takeRule, addLink, takeLink}
 use Rattle.tables.specs.Books.Request.{openBook, edit, editAll, find, parties, inspect, refresh}
 use Rattle.tables.proofs.CallLaws.{check-given, check-holds, find-keeps, parties-keeps, inspect-keeps}
-use Rattle.tables.proofs.DisputeLaws.{length-disputes, disputes-at}
+use Rattle.tables.proofs.DisputeLaws.{length-disputes}
 use Rattle.tables.proofs.EditLaws.{passed, changed-bytes, added-acyclic, taken-acyclic}
-use Rattle.tables.proofs.ListLaws.{run-keeps, list-keeps}
+use Rattle.tables.proofs.ListLaws.{list-keeps}
 use Rattle.tables.proofs.ShapeLaws.{sized-facts, facts-sized, shape-sized, zeros-lengths}
 use Rattle.tables.proofs.SoundLaws.{Sound, means-sound, bytes-mean, free-means, length-entriesOf}
 use Rattle.tables.proofs.TableLaws.{length-tallied}
@@ -52,7 +51,7 @@ root : (n k : ℕ) → n * n ≡ k * k → n ≡ k
 root n k e = by-cases (decLt n k) (λ h. absurd (lt-irrefl _ (subst (λ (x : ℕ). x < k * k) e (square-lt n k h))))
     (λ h. by-cases (decLt k n) (λ g. absurd (lt-irrefl _ (subst (λ (x : ℕ). k * k < x) e (square-lt k n g)))) (λ g. omega arith))
 
-one-size : (n m n′ m′ : ℕ) (t : Tables) → LengthsOf n m t → LengthsOf n′ m′ t → (n′ ≡ n) × (m′ ≡ m)
+pub one-size : (n m n′ m′ : ℕ) (t : Tables) → LengthsOf n m t → LengthsOf n′ m′ t → (n′ ≡ n) × (m′ ≡ m)
 one-size n m n′ m′ t s s′ =
     let n-same : n′ ≡ n = root n′ n (sym (s′ .links-length) ∙ s .links-length) in
     let places : n′ * m′ ≡ n * m = omega (arith, s .rules-length, s′ .rules-length) in
@@ -212,40 +211,19 @@ module _ (n m : ℕ) (t : Tables) (s : Consistent n m t) where
 pub call-consistent : (n m : ℕ) (call : Call) (t : Tables) → Consistent n m t → Consistent n m (after call t)
 call-consistent n m call t s = request-consistent n m t s (call .n) (call .m) (call .request)
 
--- ---- lists
-
-run-consistent : (n m : ℕ) (cs : List Call) (t : Tables) → Consistent n m t → Consistent n m (run after cs t)
-run-consistent n m = run-keeps after (Consistent n m) (call-consistent n m)
-
--- ---- the promises
+-- ---- a book just opened
 
 pub opened-consistent : (n m : ℕ) (t : Tables) → calls.openBook n m t .reply ≡ given tt → Consistent n m (calls.openBook n m t .tables)
 unfolding calls.openBook
 opened-consistent n m t = check-given 1 t _ (Consistent n m) _ λ fits _. zeros-consistent n m t (sized-facts 1 1 n m _ _ _ _ _ fits)
 
-module _ (n m : ℕ) (t : Tables) (opened : calls.openBook n m t .reply ≡ given tt) (cs : List Call) where
-  abbrev left : Tables
-  left = run after cs (calls.openBook n m t .tables)
-
-  pub stays : Consistent n m left
-  stays = run-consistent n m cs _ (opened-consistent n m t opened)
-
-  pub stays-shaped : shaped n m left ≡ true
-  stays-shaped = consistent-shaped stays
-
-  pub stays-sound : sound n m left ≡ true
-  stays-sound = consistent-sound stays
-
-  -- in numbers: an entry from 257 on is that of a dispute
-  pub stays-counted : (j : ℕ) → j < m → getD (left .disputes) j 0 ≡ count (λ k. leb 257 (getD (left .entries) (k * m + j) 0)) n
-  unfolding disputesAt
-  stays-counted j h = ap (λ (l : List ℕ). getD l j 0) (stays .right .disputes) ∙ disputes-at n m (left .entries) j h
+-- ---- two books
 
 same-table : {size : ℕ} (xs ys : List ℕ) → length xs ≡ size → length ys ≡ size → Agree xs ys → xs ≡ ys
 same-table xs ys hx hy agree = ext-getD 0 xs ys (hx ∙ sym hy) (λ i _. agree i)
 
 -- two such books with the same links and rules have the same entries and the same dispute counts
-consistent-agree : (n m : ℕ) (a b : Tables) → Consistent n m a → Consistent n m b
+pub consistent-agree : (n m : ℕ) (a b : Tables) → Consistent n m a → Consistent n m b
     → Agree (a .links) (b .links) → Agree (a .rules) (b .rules) → Agree (a .entries) (b .entries) × Agree (a .disputes) (b .disputes)
 consistent-agree n m a b s t same-links same-rules =
     let links = same-table (a .links) (b .links) (s .lengths .links-length) (t .lengths .links-length) same-links in
@@ -253,9 +231,3 @@ consistent-agree n m a b s t same-links same-rules =
     let entries = s .right .entries ∙ ap₂ (λ (x y : List ℕ). entriesOf n m (upOf n x) y) links rules ∙ sym (t .right .entries) in
     let disputes = s .right .disputes ∙ ap (disputesOf n m) entries ∙ sym (t .right .disputes) in
     (λ i. ap (λ (l : List ℕ). getD l i 0) entries, λ i. ap (λ (l : List ℕ). getD l i 0) disputes)
-
-pub books-agree :
-    (n m : ℕ) (s t : Tables) → calls.openBook n m s .reply ≡ given tt → calls.openBook n m t .reply ≡ given tt → (xs ys : List Call)
-    → let a = run after xs (calls.openBook n m s .tables) in let b = run after ys (calls.openBook n m t .tables) in
-    Agree (a .links) (b .links) → Agree (a .rules) (b .rules) → Agree (a .entries) (b .entries) × Agree (a .disputes) (b .disputes)
-books-agree n m s t opened-s opened-t xs ys = consistent-agree n m _ _ (stays n m s opened-s xs) (stays n m t opened-t ys)

@@ -1,5 +1,6 @@
 -- The checks of a call, and what find and inspect say of sound tables.
 --     check-cases                    a check refuses and leaves the tables, or its test is passed; check-given, check-holds, check-refused: of what a call leaves
+--     check-passed, check-failed     a check whose test is passed, and one whose test fails
 --     refused-…                      a refused call writes to no table
 --     find-sound                     on sound tables find gives the lookup, a rule with its handling number; so it never refuses by 10: find-never-10
 --     lowest-fails                   where not all pass, `lowest` is the lowest number that fails
@@ -24,7 +25,7 @@ use Rattle.tables.specs.Reply.{refused, given, Finding, Fault}
 use Rattle.tables.specs.Tables.{Tables, shaped, upOf, ownOf, entryAt, all-below, byte-right, bytes-right, kind-free, entry-right}
 use Rattle.tables.specs.Tables.{count-right, well-linked, sound-over, sound}
 use Rattle.tables.specs.Calls as calls
-use Rattle.tables.specs.Calls.{Outcome, check, leaves, findingOf, handled, lowest, firstFault, faultOf}
+use Rattle.tables.specs.Calls.{OutcomeOn, check, leaves, findingOf, handled, lowest, firstFault, faultOf}
 use Rattle.tables.proofs.FindingLaws.{finding-none, finding-rule, finding-dispute, handled-some}
 use Rattle.tables.proofs.ShapeLaws.{sized-facts}
 use Rattle.tables.proofs.SoundLaws.{sound-means, entries-looked}
@@ -35,25 +36,30 @@ use Rattle.tables.proofs.TableLaws.{below-true}
 pub given-not-refused : {A : Type 0} (a : A) (number : ℕ) → given a ≡ refused number → ⊥
 given-not-refused a number e = let never : _≡_ {A = ℕ} 0 1 = cc in omega arith
 
-module _ {A : Type 0} (number : ℕ) (t : Tables) (next : Outcome A) where
+module _ {T A : Type 0} (number : ℕ) (t : T) (next : OutcomeOn T A) where
   -- what holds of the refusal, which leaves the tables, and of the rest where the test is passed, holds of the whole
-  pub check-cases : (P : Outcome A → Type 0) (b : Bool) → P (leaves (refused number) t) → (b ≡ true → P next) → P (check number b t next)
+  pub check-cases : (P : OutcomeOn T A → Type 0) (b : Bool) → P (leaves (refused number) t) → (b ≡ true → P next) → P (check number b t next)
   unfolding check
   check-cases P true when-refused rest = rest refl
   check-cases P false when-refused rest = when-refused
 
-  -- the reply where the test fails
+  pub check-passed : (b : Bool) → b ≡ true → check number b t next ≡ next
+  check-passed b passes = ap (λ (x : Bool). check number x t next) passes ∙ unfold check in refl
+
+  pub check-failed : (b : Bool) → b ≡ false → check number b t next ≡ leaves (refused number) t
+  check-failed b fails = ap (λ (x : Bool). check number x t next) fails ∙ unfold check in refl
+
+  -- .. in its reply
   pub check-stops : (b : Bool) → b ≡ false → check number b t next .reply ≡ refused number
-  unfolding check
-  check-stops b fails = rw fails refl
+  check-stops b fails = ap (λ (o : OutcomeOn T A). o .reply) (check-failed b fails)
 
   -- of the tables after a call that gives something
-  pub check-given : (P : Tables → Type 0) (b : Bool) {a : A} → (b ≡ true → next .reply ≡ given a → P (next .tables))
+  pub check-given : (P : T → Type 0) (b : Bool) {a : A} → (b ≡ true → next .reply ≡ given a → P (next .tables))
       → check number b t next .reply ≡ given a → P (check number b t next .tables)
   check-given P b {a} rest = check-cases (λ o. o .reply ≡ given a → P (o .tables)) b (λ is. absurd (given-not-refused a number (sym is))) rest
 
   -- of the tables after any
-  pub check-holds : (P : Tables → Type 0) (b : Bool) → P t → (b ≡ true → P (next .tables)) → P (check number b t next .tables)
+  pub check-holds : (P : T → Type 0) (b : Bool) → P t → (b ≡ true → P (next .tables)) → P (check number b t next .tables)
   check-holds P b before rest = check-cases (λ o. P (o .tables)) b before rest
 
   -- where a refusal of the rest leaves the tables, so does one of the whole
@@ -61,7 +67,7 @@ module _ {A : Type 0} (number : ℕ) (t : Tables) (next : Outcome A) where
   check-refused b rest = check-cases (λ o. (r : ℕ) → o .reply ≡ refused r → o .tables ≡ t) b (λ r e. refl) (λ _. rest)
 
 -- a call that gives something does not refuse
-never-refused : {A : Type 0} (a : A) (t t′ : Tables) (r : ℕ) → leaves (given a) t′ .reply ≡ refused r → leaves (given a) t′ .tables ≡ t
+never-refused : {T A : Type 0} (a : A) (t t′ : T) (r : ℕ) → leaves (given a) t′ .reply ≡ refused r → leaves (given a) t′ .tables ≡ t
 never-refused a t t′ r e = absurd (given-not-refused a r e)
 
 module _ (n m : ℕ) (t : Tables) where

@@ -25,7 +25,7 @@ use Rattle.tables.specs.Books.{Request, answerTo}
 use Rattle.tables.specs.Lists.Change.{addRule, takeRule, addLink, takeLink}
 use Rattle.tables.specs.Books.Request.{openBook, edit, editAll, find, parties, inspect, refresh}
 use Rattle.tables.proofs.CallLaws.{given-not-refused, check-cases, check-holds, find-keeps, parties-keeps, inspect-keeps}
-use Rattle.tables.proofs.ListLaws.{run-stays, list-keeps}
+use Rattle.tables.proofs.ListLaws.{edit-cases, run-stays, list-keeps}
 
 module _ (n m : ℕ) (t : Tables) (caller : ℕ) where
   none-such : {A : Type 0} (next : Outcome A) → shaped n m t ≡ true → callers ≤ caller → byCaller n m t caller next ≡ leaves (refused 13) t
@@ -79,19 +79,7 @@ module _ (n m : ℕ) (t : Tables) where
     accepted-same links rules = getD-set-other (t .tally) by c _ 0 other
 
     pub others-kept : (e : Change) → Same (editOutcome n m t by e .tables)
-    unfolding editOutcome calls.addRule calls.takeRule calls.addLink calls.takeLink
-    others-kept (addRule k j h) =
-        check-holds 1 t _ Same _ refl λ _. check-holds 13 t _ Same _ refl λ _. check-holds 2 t _ Same _ refl λ _. check-holds 3 t _ Same _ refl λ _.
-        check-holds 4 t _ Same _ refl λ _. check-holds 5 t _ Same _ refl λ _. accepted-same _ _
-    others-kept (takeRule k j) =
-        check-holds 1 t _ Same _ refl λ _. check-holds 13 t _ Same _ refl λ _. check-holds 2 t _ Same _ refl λ _. check-holds 3 t _ Same _ refl λ _.
-        check-holds 5 t _ Same _ refl λ _. check-holds 6 t _ Same _ refl λ _. accepted-same _ _
-    others-kept (addLink k p) =
-        check-holds 1 t _ Same _ refl λ _. check-holds 13 t _ Same _ refl λ _. check-holds 2 t _ Same _ refl λ _. check-holds 5 t _ Same _ refl λ _.
-        check-holds 7 t _ Same _ refl λ _. check-holds 9 t _ Same _ refl λ _. accepted-same _ _
-    others-kept (takeLink k p) =
-        check-holds 1 t _ Same _ refl λ _. check-holds 13 t _ Same _ refl λ _. check-holds 2 t _ Same _ refl λ _. check-holds 5 t _ Same _ refl λ _.
-        check-holds 8 t _ Same _ refl λ _. accepted-same _ _
+    others-kept = edit-cases n m t by (λ o. Same (o .tables)) (λ number. refl) (λ links rules _. accepted-same links rules)
 
   abbrev Kept : Tables → Type 0
   Kept t′ = t′ .tally ≡ t .tally

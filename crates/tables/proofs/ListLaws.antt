@@ -1,6 +1,7 @@
 -- What a list of steps keeps, and what a list of edits does.
---     run-keeps       what every step keeps, a list of steps keeps
+--     run-keeps       what every step keeps, a list of steps keeps; run-relates: what every step keeps of two states
 --     run-append      a list of steps, and then another
+--     edit-cases      an edit is refused and leaves the tables, or it is accepted, and its checks are passed
 --     changeIn-19     a record that stands for no change is refused by 19
 --     run-cases       what holds where a list of edits begins, and after each of its edits if it held before it, holds where the list ends
 --     run-stays       after a refusal no edit is tried
@@ -13,14 +14,16 @@ use mathlib.Core.Bool.{Bool, true, false, and-eq-true-iff}
 use mathlib.Core.List.{List, [], _∷_, _++_}
 use Prim.Native.Nat.{ℕ, _≤_, _<_}
 use borrow.Author.Tests.{leb-true, ltb-true, le-leb, lt-ltb}
-use lib.Dec.{eqb}
-use lib.ListN.{length}
+use lib.Dec.{eqb, ltb}
+use lib.ListN.{length, length-set}
 use Rattle.tables.specs.declared.Edit.{Edit}
 use Rattle.tables.specs.Caller.{callers}
 use Rattle.tables.specs.Reply.{Reply, refused, given, Listing, whole, stopped}
 use Rattle.tables.specs.Tables.{Tables, shaped, sound}
+use Rattle.tables.specs.Calls as calls
 use Rattle.tables.specs.Calls.{Outcome, leaves, check}
 use Rattle.tables.specs.Lists.{Change, editOutcome, changeIn, ifChange, recordOutcome, run, countedIn, onward, nextEdit, beginList, makeList}
+use Rattle.tables.specs.Lists.Change.{addRule, takeRule, addLink, takeLink}
 use Rattle.tables.proofs.CallLaws.{given-not-refused, check-cases, check-holds}
 
 pub run-keeps : {C S : Type 0} (turn : C → S → S) (P : S → Type 0) → ((c : C) (s : S) → P s → P (turn c s)) → (cs : List C) (s : S) → P s → P (run turn cs s)
@@ -28,11 +31,58 @@ unfolding run
 run-keeps turn P keeps [] s p = p
 run-keeps turn P keeps (c ∷ cs) s p = run-keeps turn P keeps cs (turn c s) (keeps c s p)
 
+-- what every step keeps of two states, a list of steps keeps
+pub run-relates : {C S : Type 0} (turn : C → S → S) (R : S → S → Type 0) → ((c : C) (a b : S) → R a b → R (turn c a) (turn c b))
+    → (cs : List C) (a b : S) → R a b → R (run turn cs a) (run turn cs b)
+unfolding run
+run-relates turn R keeps [] a b r = r
+run-relates turn R keeps (c ∷ cs) a b r = run-relates turn R keeps cs (turn c a) (turn c b) (keeps c a b r)
+
 -- a list of steps, and then another
 pub run-append : {C S : Type 0} (turn : C → S → S) (xs ys : List C) (s : S) → run turn (xs ++ ys) s ≡ run turn ys (run turn xs s)
 unfolding run
 run-append turn [] ys s = refl
 run-append turn (x ∷ xs) ys s = run-append turn xs ys (turn x s)
+
+-- ---- one edit
+
+-- what the checks of an accepted edit have shown, whichever of the four it is, of the links and rules that it leaves
+pub record Passes (n m : ℕ) (t : Tables) (caller : ℕ) (links rules : List ℕ) : Type 0 where
+  pub fits : shaped n m t ≡ true
+  pub known : caller < callers
+  pub is-sound : sound n m t ≡ true
+  pub links-length : length links ≡ length (t .links)
+  pub rules-length : length rules ≡ length (t .rules)
+
+module _ (n m : ℕ) (t : Tables) (caller : ℕ) (P : Outcome ℕ → Type 0) (when-refused : (number : ℕ) → P (leaves (refused number) t))
+    (when-accepted : (links rules : List ℕ) → Passes n m t caller links rules → P (calls.accepted n m t caller links rules)) where
+  past : (number : ℕ) (next : Outcome ℕ) (b : Bool) → (b ≡ true → P next) → P (check number b t next)
+  past number next b rest = check-cases number t next P b (when-refused number) rest
+
+  rule-passes : (rules : List ℕ) → length rules ≡ length (t .rules) → shaped n m t ≡ true → ltb caller callers ≡ true → sound n m t ≡ true
+      → P (calls.accepted n m t caller (t .links) rules)
+  rule-passes rules same fits known is-sound = when-accepted (t .links) rules
+      (record { fits = fits; known = ltb-true _ _ known; is-sound = is-sound; links-length = refl; rules-length = same })
+
+  link-passes : (links : List ℕ) → length links ≡ length (t .links) → shaped n m t ≡ true → ltb caller callers ≡ true → sound n m t ≡ true
+      → P (calls.accepted n m t caller links (t .rules))
+  link-passes links same fits known is-sound = when-accepted links (t .rules)
+      (record { fits = fits; known = ltb-true _ _ known; is-sound = is-sound; links-length = same; rules-length = refl })
+
+  pub edit-cases : (c : Change) → P (editOutcome n m t caller c)
+  unfolding editOutcome calls.addRule calls.takeRule calls.addLink calls.takeLink
+  edit-cases (addRule k j h) =
+      past _ _ _ λ fits. past _ _ _ λ known. past _ _ _ λ _. past _ _ _ λ _. past _ _ _ λ _. past _ _ _ λ is-sound.
+      rule-passes _ (length-set (t .rules) _ _) fits known is-sound
+  edit-cases (takeRule k j) =
+      past _ _ _ λ fits. past _ _ _ λ known. past _ _ _ λ _. past _ _ _ λ _. past _ _ _ λ is-sound. past _ _ _ λ _.
+      rule-passes _ (length-set (t .rules) _ _) fits known is-sound
+  edit-cases (addLink c p) =
+      past _ _ _ λ fits. past _ _ _ λ known. past _ _ _ λ _. past _ _ _ λ is-sound. past _ _ _ λ _. past _ _ _ λ _.
+      link-passes _ (length-set (t .links) _ _) fits known is-sound
+  edit-cases (takeLink c p) =
+      past _ _ _ λ fits. past _ _ _ λ known. past _ _ _ λ _. past _ _ _ λ is-sound. past _ _ _ λ _.
+      link-passes _ (length-set (t .links) _ _) fits known is-sound
 
 -- ---- one edit of a list
 

@@ -1,8 +1,7 @@
 -- Refusals that a call on sound tables never answers by.
---     never-5, never-10                 where the tables that a call is lent are sound, or do not fit its n and m, it answers neither by 5 nor by 10
---     stays-never-5, stays-never-10     so it is for calls of any n and m on a book, after any list of calls since it was just opened
---     sound-or-unfit                    .. on any book that has its lengths and is sound
---     list-never-stops                  on any tables, a list stops at no edit by 1, 5, 10 or 13
+--     never-5, never-10    where the tables that a call is lent are sound, or do not fit its n and m, it answers neither by 5 nor by 10
+--     sound-or-unfit       so it is for calls of any n and m on a book that has its lengths and is sound
+--     list-never-stops     on any tables, a list stops at no edit by 1, 5, 10 or 13
 -- Assumes nothing.
 use mathlib.Core.Path.{_≡_, refl, sym, ap, _∙_, subst}
 use mathlib.Core.Bool.{Bool, true, false, _&&_, _||_, true≢false, and-eq-true-iff}
@@ -17,11 +16,11 @@ use Rattle.tables.specs.Reply.{Reply, refused, given, Listing, whole, st
 use Rattle.tables.specs.Tables.{Tables, shaped, links-right, sound, upOf}
 use Rattle.tables.specs.Calls as calls
 use Rattle.tables.specs.Calls.{Outcome, check, byCaller}
-use Rattle.tables.specs.Lists.{Change, editOutcome, run, counting, countedIn, beginList, makeList}
-use Rattle.tables.specs.Books.{Request, Call, Answer, RefusedBy, answerTo, outcome, after}
+use Rattle.tables.specs.Lists.{Change, editOutcome, counting, countedIn, beginList, makeList}
+use Rattle.tables.specs.Books.{Request, Call, Answer, RefusedBy, answerTo, outcome}
 use Rattle.tables.specs.Lists.Change.{addRule, takeRule, addLink, takeLink}
 use Rattle.tables.specs.Books.Request.{openBook, edit, editAll, find, parties, inspect, refresh}
-use Rattle.tables.proofs.BookLaws.{Consistent, consistent-shaped, consistent-sound, tested-consistent, same-size, edit-consistent, stays}
+use Rattle.tables.proofs.BookLaws.{Consistent, consistent-shaped, consistent-sound, tested-consistent, same-size, edit-consistent}
 use Rattle.tables.proofs.CallLaws.{check-cases, given-not-refused, entry-found}
 use Rattle.tables.proofs.EditLaws.{passed}
 use Rattle.tables.proofs.ListLaws.{run-cases, list-cases}
@@ -154,13 +153,3 @@ pub sound-or-unfit : (n m : ℕ) (t : Tables) → Consistent n m t → (n′ m�
 sound-or-unfit n m t s n′ m′ fits =
     let (n-same, m-same) = same-size n m t s n′ m′ fits in
     rw (n-same, m-same) (consistent-sound s)
-
-module _ (n m : ℕ) (t : Tables) (opened : calls.openBook n m t .reply ≡ given tt) (cs : List Call) (call : Call) where
-  abbrev left : Tables
-  left = run after cs (calls.openBook n m t .tables)
-
-  pub stays-never-5 : ¬ RefusedBy 5 (outcome call (run after cs (calls.openBook n m t .tables)) .answer)
-  stays-never-5 = never-5 call left (sound-or-unfit n m left (stays n m t opened cs) (call .n) (call .m))
-
-  pub stays-never-10 : ¬ RefusedBy 10 (outcome call (run after cs (calls.openBook n m t .tables)) .answer)
-  stays-never-10 = never-10 call left (sound-or-unfit n m left (stays n m t opened cs) (call .n) (call .m))

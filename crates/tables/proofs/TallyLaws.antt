@@ -1,16 +1,16 @@
--- The tally of a book after any list of calls since it was just opened.
---     tally-counts    each caller's number is the count of that caller's edits accepted since the last accepted open, or 4,294,967,295 where there
---                     were more
+-- The tally of a book after one call: each caller's number is the count of that caller's edits accepted since the last accepted open, or
+-- 4,294,967,295 where there were more, if it was so before the call.
+--     request-counts           of every request
+--     none-more, one-more      of a call that answers as an edit does, refused or accepted
 -- Assumes nothing.
 use mathlib.Core.Path.{_≡_, refl, sym, ap, _∙_}
 use mathlib.Core.Bool.{Bool, true, false}
-use mathlib.Core.List.{List, [], _∷_}
+use mathlib.Core.List.{List}
 use mathlib.Core.Logic.{_≢_, by-cases}
-use Prim.Native.Nat.{ℕ, _+_, min}
+use Prim.Native.Nat.{ℕ, _+_, _<_, min}
 use native.Mathlib.Decide.{decLt, ℕ-discrete}
 use native.Mathlib.Omega.{arith}
-use borrow.Author.Tests.{eq-eqb, ne-eqb, ltb-true}
-use lib.Dec.{ltb}
+use borrow.Author.Tests.{eq-eqb, ne-eqb}
 use lib.ListN.{getD, set}
 use lib.Seq.{getD-set-same, getD-set-other}
 use Rattle.tables.specs.declared.Edit.{Edit}
@@ -18,14 +18,13 @@ use Rattle.tables.specs.Caller.{callers}
 use Rattle.tables.specs.Reply.{Reply, refused, given, Listing, whole}
 use Rattle.tables.specs.Tables.{Tables, saturated, tallied}
 use Rattle.tables.specs.Calls as calls
-use Rattle.tables.specs.Calls.{Outcome, leaves, check}
-use Rattle.tables.specs.Lists.{Change, editOutcome, run, counting, makeList}
-use Rattle.tables.specs.Books.{Request, Call, Answer, answerTo, after, opening, editing, listing, editsMade, withEdits, countedBy, editsSince}
-use Rattle.tables.specs.Lists.Change.{addRule, takeRule, addLink, takeLink}
+use Rattle.tables.specs.Calls.{Outcome, leaves}
+use Rattle.tables.specs.Lists.{Change, editOutcome, counting, makeList}
+use Rattle.tables.specs.Books.{Request, Answer, answerTo, opening, editing, listing, editsMade, withEdits, countedBy}
 use Rattle.tables.specs.Books.Request.{openBook, edit, editAll, find, parties, inspect, refresh}
-use Rattle.tables.proofs.BookLaws.{zeros-at, Consistent, edit-consistent, opened-consistent, call-consistent}
-use Rattle.tables.proofs.CallLaws.{check-cases, check-given, find-keeps, parties-keeps, inspect-keeps}
-use Rattle.tables.proofs.ListLaws.{run-cases, list-cases}
+use Rattle.tables.proofs.BookLaws.{zeros-at, Consistent, edit-consistent}
+use Rattle.tables.proofs.CallLaws.{check-cases, find-keeps, parties-keeps, inspect-keeps}
+use Rattle.tables.proofs.ListLaws.{edit-cases, run-cases, list-cases}
 use Rattle.tables.proofs.TableLaws.{saturated-next, saturated-full}
 
 abbrev most : ℕ
@@ -64,32 +63,26 @@ module _ (n m : ℕ) (t : Tables) (s : Consistent n m t) (caller count : ℕ) (s
     abbrev EditCounts : Outcome ℕ → Type 0
     EditCounts o = getD (o .tables .tally) caller 0 ≡ min most (withEdits caller by (editsMade (editing (o .reply))) count)
 
-    none-more : getD (t .tally) caller 0 ≡ min most (withEdits caller by 0 count)
+    -- a refused edit
+    pub none-more : getD (t .tally) caller 0 ≡ min most (withEdits caller by 0 count)
     none-more = so-far ∙ ap (min most) (sym (edits-none caller by count))
 
-    one-more : (n′ m′ : ℕ) (links rules : List ℕ) → ltb by callers ≡ true → EditCounts (calls.accepted n′ m′ t by links rules)
-    unfolding calls.accepted tallied
-    one-more n′ m′ links rules known = by-cases (ℕ-discrete by caller)
+    -- an accepted edit, whatever else it leaves
+    pub one-more : by < callers → getD (tallied by (t .tally)) caller 0 ≡ min most (withEdits caller by 1 count)
+    unfolding tallied
+    one-more known = by-cases (ℕ-discrete by caller)
         (λ same.
         ap (λ (c : ℕ). getD (set (t .tally) c (saturated (getD (t .tally) c 0))) caller 0) same
-        ∙ getD-set-same (t .tally) caller _ 0 (omega (arith, ltb-true by callers known, s .lengths .tally-length))
+        ∙ getD-set-same (t .tally) caller _ 0 (omega (arith, known, s .lengths .tally-length))
         ∙ saturated-min (getD (t .tally) caller 0) count so-far ∙ ap (min most) (sym (own-counted caller by same 1 count)))
         (λ other. getD-set-other (t .tally) by caller _ 0 (λ same. other (sym same)) ∙ so-far ∙ ap (min most) (sym (others-uncounted caller by other 1 count)))
 
-    -- a check, which counts none where it refuses
-    past : (number : ℕ) (next : Outcome ℕ) (b : Bool) → (b ≡ true → EditCounts next) → EditCounts (check number b t next)
-    past number next b rest = check-cases number t next EditCounts b none-more rest
+    accepted-counts : (n′ m′ : ℕ) (links rules : List ℕ) → by < callers → EditCounts (calls.accepted n′ m′ t by links rules)
+    unfolding calls.accepted
+    accepted-counts n′ m′ links rules = one-more
 
     edit-counts : (n′ m′ : ℕ) (e : Change) → EditCounts (editOutcome n′ m′ t by e)
-    unfolding editOutcome calls.addRule calls.takeRule calls.addLink calls.takeLink
-    edit-counts n′ m′ (addRule k j h) =
-        past 1 _ _ λ _. past 13 _ _ λ known. past 2 _ _ λ _. past 3 _ _ λ _. past 4 _ _ λ _. past 5 _ _ λ _. one-more n′ m′ _ _ known
-    edit-counts n′ m′ (takeRule k j) =
-        past 1 _ _ λ _. past 13 _ _ λ known. past 2 _ _ λ _. past 3 _ _ λ _. past 5 _ _ λ _. past 6 _ _ λ _. one-more n′ m′ _ _ known
-    edit-counts n′ m′ (addLink c p) =
-        past 1 _ _ λ _. past 13 _ _ λ known. past 2 _ _ λ _. past 5 _ _ λ _. past 7 _ _ λ _. past 9 _ _ λ _. one-more n′ m′ _ _ known
-    edit-counts n′ m′ (takeLink c p) =
-        past 1 _ _ λ _. past 13 _ _ λ known. past 2 _ _ λ _. past 5 _ _ λ _. past 8 _ _ λ _. one-more n′ m′ _ _ known
+    edit-counts n′ m′ = edit-cases n′ m′ t by EditCounts (λ number. none-more) (λ links rules p. accepted-counts n′ m′ links rules (p .known))
 
 -- ---- a list of edits
 
@@ -121,7 +114,7 @@ module _ (n m : ℕ) (t : Tables) (s : Consistent n m t) (caller count : ℕ) (s
   abbrev Counts : Request → Answer → Tables → Type 0
   Counts r answer left = getD (left .tally) caller 0 ≡ min most (countedBy caller r answer count)
 
-  request-counts : (n′ m′ : ℕ) (r : Request) → Counts r (answerTo n′ m′ t r .answer) (answerTo n′ m′ t r .tables)
+  pub request-counts : (n′ m′ : ℕ) (r : Request) → Counts r (answerTo n′ m′ t r .answer) (answerTo n′ m′ t r .tables)
   unfolding answerTo calls.openBook calls.inspect calls.refresh
   request-counts n′ m′ openBook = check-cases 1 t _ (λ o. Counts openBook (opening (o .reply)) (o .tables)) _ so-far λ _. zeros-at callers caller
   request-counts n′ m′ (edit by e) = edit-counts n m t s caller count so-far by n′ m′ e
@@ -132,21 +125,3 @@ module _ (n m : ℕ) (t : Tables) (s : Consistent n m t) (caller count : ℕ) (s
   request-counts n′ m′ refresh =
       let P : Outcome ℕ → Type 0 = λ o. Counts refresh (editing (o .reply)) (o .tables) in
       check-cases 1 t _ P _ so-far λ _. check-cases 5 t _ P _ so-far λ _. so-far
-
--- ---- lists of calls
-
-run-counts : (n m : ℕ) (cs : List Call) (t : Tables) (caller count : ℕ) → Consistent n m t → getD (t .tally) caller 0 ≡ min most count
-    → getD (run after cs t .tally) caller 0 ≡ min most (editsSince caller count cs t)
-unfolding run editsSince
-run-counts n m [] t caller count s so-far = so-far
-run-counts n m (call ∷ cs) t caller count s so-far =
-    run-counts n m cs (after call t) caller _ (call-consistent n m call t s) (request-counts n m t s caller count so-far (call .n) (call .m) (call .request))
-
-opened-tally : (n m : ℕ) (t : Tables) → calls.openBook n m t .reply ≡ given tt → (caller : ℕ) → getD (calls.openBook n m t .tables .tally) caller 0 ≡ 0
-unfolding calls.openBook
-opened-tally n m t opened caller = check-given 1 t _ (λ left. getD (left .tally) caller 0 ≡ 0) _ (λ _ _. zeros-at callers caller) opened
-
--- for every number: past the last caller the tally has none, and no edit is accepted
-pub tally-counts : (n m : ℕ) (t : Tables) → calls.openBook n m t .reply ≡ given tt → (cs : List Call) → (caller : ℕ)
-    → let opened = calls.openBook n m t .tables in getD (run after cs opened .tally) caller 0 ≡ min 4294967295 (editsSince caller 0 cs opened)
-tally-counts n m t opened cs caller = run-counts n m cs _ caller 0 (opened-consistent n m t opened) (opened-tally n m t opened caller)

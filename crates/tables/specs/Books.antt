@@ -1,15 +1,15 @@
--- Calls as values, and lists of them, each list on a book of its own.
+-- Calls as values.
 --     Call        a size and what is asked: one of the ten calls, with any arguments
 --     Answer      what a call answers, of whichever kind it is
 --     RefusedBy   the answer is a refusal of this number
 --     outcome     what a call answers and the tables that it leaves; after: the tables alone
 --     callOf, answered     the call, and the answer, that the code's values stand for
---     editsSince  a caller's edits accepted since the book's last accepted open
+--     countedBy   a caller's edits accepted since the last accepted open, after a call that answers so
 --     Agree       every place of two tables holds the same number
 -- Assumes nothing.
 use mathlib.Core.Path.{_≡_}
 use mathlib.Core.Bool.{Bool, true, false}
-use mathlib.Core.List.{List, [], _∷_}
+use mathlib.Core.List.{List}
 use Prim.Native.Nat.{ℕ, _+_}
 use lib.Dec.{eqb}
 use lib.ListN.{getD}
@@ -100,7 +100,7 @@ answered (CodeAnswer.Found reply) = finding (found reply)
 answered (CodeAnswer.Paired reply) = pairing (paired reply)
 answered (CodeAnswer.Inspected reply) = inspecting (inspected reply)
 
--- ---- lists
+-- ---- the edits of a caller
 
 -- the answer is no refusal
 abbrev pub isGiven : {A : Type 0} → Reply A → Bool
@@ -142,11 +142,7 @@ countedBy caller (parties kind mark) answer count = count
 countedBy caller inspect answer count = count
 countedBy caller refresh answer count = count
 
--- a caller's edits accepted since the book's last accepted open, where `count` were before these calls
-unfoldable pub editsSince : (caller count : ℕ) → List Call → Tables → ℕ
-editsSince caller count [] t = count
-editsSince caller count (call ∷ cs) t =
-    editsSince caller (countedBy caller (call .request) (outcome call t .answer) count) cs (after call t)
+-- ---- two books
 
 abbrev pub Agree : List ℕ → List ℕ → Type 0
 Agree xs ys = (i : ℕ) → getD xs i 0 ≡ getD ys i 0

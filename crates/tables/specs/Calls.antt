@@ -14,16 +14,20 @@ use Rattle.tables.specs.Caller.{callers}
 use Rattle.tables.specs.Tables.{Tables, lent, shaped, upOf, ownOf, entriesOf, disputesOf, links-right, sound, differing, tallied}
 use Rattle.tables.specs.Tables.{is-dispute, all-below, byte-right, kind-free, entry-right, count-right}
 
-pub record Outcome (A : Type 0) : Type 0 where
+-- what a call replies, and the tables that it leaves: those of a book, or others that it writes
+pub record OutcomeOn (T A : Type 0) : Type 0 where
   pub reply : Reply A
-  pub tables : Tables
+  pub tables : T
+
+abbrev pub Outcome : Type 0 → Type 0
+Outcome A = OutcomeOn Tables A
 
 -- a call that replies so and leaves these tables
-abbrev pub leaves : {A : Type 0} → Reply A → Tables → Outcome A
+abbrev pub leaves : {T A : Type 0} → Reply A → T → OutcomeOn T A
 leaves reply t = record { reply = reply; tables = t }
 
 -- where the test fails the call is refused by this number and writes to no table
-unfoldable pub check : {A : Type 0} → ℕ → Bool → Tables → Outcome A → Outcome A
+unfoldable pub check : {T A : Type 0} → ℕ → Bool → T → OutcomeOn T A → OutcomeOn T A
 check number true t next = next
 check number false t next = leaves (refused number) t
 

@@ -55,6 +55,8 @@ refusalNumber Refusal.BadEntry = 10
 refusalNumber Refusal.NoDispute = 11
 refusalNumber Refusal.BadForm = 12
 refusalNumber Refusal.Caller = 13
+refusalNumber Refusal.Name = 14
+refusalNumber Refusal.Unsaved = 15
 refusalNumber Refusal.NoEdit = 19
 
 abbrev pub opened : Opened → Reply (Unit {0})

@@ -32,6 +32,8 @@ pub enum Refusal {
     NoDispute,
     BadForm,
     Caller,
+    Name,
+    Unsaved,
     NoEdit,
 }
 
@@ -158,6 +160,8 @@ impl Refusal {
             Refusal::NoDispute => 11,
             Refusal::BadForm => 12,
             Refusal::Caller => 13,
+            Refusal::Name => 14,
+            Refusal::Unsaved => 15,
             Refusal::NoEdit => 19,
         }
     }

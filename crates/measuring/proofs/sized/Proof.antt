@@ -1,4 +1,4 @@
--- `asking::sized` meets its contract: its tests are those of `sized`, and the products of 16-bit numbers fit. Assumes nothing.
+-- `measuring::sized` meets its contract: its tests are those of `sized`, and the products of 16-bit numbers fit. Assumes nothing.
 use mathlib.Core.Path.{_≡_, sym, ap, _∙_}
 use mathlib.Core.Bool.{Bool, true, false, _&&_}
 use Prim.Native.Nat.{_*_, _≤_}
@@ -8,8 +8,8 @@ use lib.Dec.{eqb}
 use Rattle.tables.specs.Caller.{callers}
 use Rattle.tables.specs.Tables.{sized}
 use Rattle.tables.proofs.ShapeLaws.{product-fits}
-use Rattle.asking.proofs.sized.Statement.{statement}
-use Rattle.asking.proofs.sized.Tie as tie
+use Rattle.measuring.proofs.sized.Statement.{statement}
+use Rattle.measuring.proofs.sized.Tie as tie
 
 mul-places : tie.Need-mul-places
 mul-places c = omega (arith, product-fits (c .fits .n .fits) (c .fits .m .fits))

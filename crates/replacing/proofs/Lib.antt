@@ -1,0 +1,2 @@
+-- What the proof of `replace` uses.
+pub mod ReplaceLaws

@@ -1,0 +1,4 @@
+pub mod Name
+pub mod Store
+pub mod StoreSteps
+pub mod StoredBooks
