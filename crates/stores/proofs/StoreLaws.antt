@@ -7,7 +7,7 @@
 --     save-saves, return-returns             `SaveMade` and `ReturnMade` hold of every accepted call
 --     save-cases, return-cases               a call is refused and leaves what it was lent, or its checks are passed: `Saves`, `Returns`
 --     given-returned                         what is known of a return that was accepted: `Returned`
---     StoreLengths                           what `stored` tests, as facts; stored-facts, facts-stored: there and back
+--     StoreLengths                           what `stored` tests, as facts, by stored-facts
 --     length-copied, copy-there, copy-elsewhere     a table of copies with another copy under a name
 --     saving-lengths, saving-saves           the store that a save leaves
 --     placed                                 the place of a copy is low, and has room for it: `Placed`
@@ -22,7 +22,7 @@ use Prim.Native.Nat.{ℕ, _+_, _-_, _*_, _<_, _≤_}
 use native.Mathlib.Decide.{decLt}
 use native.Mathlib.Nat.{mul-le-mul}
 use native.Mathlib.Omega.{arith}
-use borrow.Author.Tests.{ltb-true, eqb-true, lt-ltb, le-ltb, eq-eqb, ne-eqb}
+use borrow.Author.Tests.{ltb-true, eqb-true, lt-ltb, le-ltb, ne-eqb}
 use lib.ListN.{length, getD, take, drop, length-append, length-drop, take-append-drop}
 use lib.Seq.{length-take-le, take-all, take-append-le, drop-append-le, drop-at, drop-drop}
 use Rattle.inheritance.specs.Above.{count}
@@ -112,10 +112,6 @@ module _ (n m : ℕ) (s : Store) where
   stored-facts held =
       let tests = simp and-iff at held in
       omega (arith, eqb-true)
-
-  pub facts-stored : StoreLengths n m s → stored n m s ≡ true
-  unfolding stored
-  facts-stored held = simp and-iff (search (eq-eqb, held .flags-length))
 
 -- the copies under a name of the store lie within its tables
 copy-room : (size name : ℕ) {total : ℕ} → total ≡ names * size → name < names → name * size + size ≤ total
@@ -283,7 +279,7 @@ module _ (n m : ℕ) (t : Tables) (s : Store) where
       (λ number is. absurd (given-not-refused count number (sym is))) (λ r is. record { passes = r; left = refl; counts = cc })
 
 -- tables whose parts are the same
-pub same-tables : (a b c d a′ b′ c′ d′ tally : List ℕ) → a ≡ a′ → b ≡ b′ → c ≡ c′ → d ≡ d′ → lent a b c tally d ≡ lent a′ b′ c′ tally d′
+same-tables : (a b c d a′ b′ c′ d′ tally : List ℕ) → a ≡ a′ → b ≡ b′ → c ≡ c′ → d ≡ d′ → lent a b c tally d ≡ lent a′ b′ c′ tally d′
 same-tables a b c d a′ b′ c′ d′ tally p q r u = λ i. lent (p i) (q i) (r i) tally (u i)
 
 module _ (n m : ℕ) (t : Tables) (s : Store) where
