@@ -1,10 +1,14 @@
 // Return: the tables of a book become those that were saved under a name.
+use asking::CallerAsked;
+use asking::ask_caller;
 use replacing::replace;
-use state_checks::ReturnAsked;
-use state_checks::ask_return;
+use state_checks::StateAsked;
+use state_checks::ask_state;
 use stores::Name;
+use stores::store_shape;
 use tables::Caller;
 use tables::Edited;
+use tables::Refusal;
 ghost use mathlib.Core.Path.{_≡_};
 ghost use mathlib.Core.Bool.{true};
 ghost use mathlib.Core.List.{List};
@@ -84,37 +88,37 @@ pub fn return_to(
         ≡ returnTo n m (lent (now (links .entry)) (now (rules .entry)) (now (entries .entry)) (now (tally .entry)) (now (disputes .entry)))
         (lentStore (now (flags .entry)) (now («saved_links» .entry)) (now («saved_rules» .entry)) (now («saved_entries» .entry)) (now («saved_disputes» .entry))) (caller .0) (name .0) ⌝ }
 {
-    match ask_return(
+    let stored = store_shape(
         n,
         m,
-        links,
-        rules,
-        entries,
-        tally,
-        disputes,
         flags,
         saved_links,
         saved_rules,
         saved_entries,
         saved_disputes,
-        caller,
-        name,
-    ) {
-        ReturnAsked::Refused(why) => Edited::Refused(why),
-        ReturnAsked::To(by, known) => bring_back(
-            n,
-            m,
-            links,
-            rules,
-            entries,
-            tally,
-            disputes,
-            saved_links,
-            saved_rules,
-            saved_entries,
-            saved_disputes,
-            by,
-            known,
-        ),
+    );
+    if !stored {
+        return Edited::Refused(Refusal::Shape);
+    }
+    match ask_caller(n, m, links, rules, entries, tally, disputes, caller) {
+        CallerAsked::Refused(why) => Edited::Refused(why),
+        CallerAsked::By(by) => match ask_state(flags, name) {
+            StateAsked::Refused(why) => Edited::Refused(why),
+            StateAsked::Under(known) => bring_back(
+                n,
+                m,
+                links,
+                rules,
+                entries,
+                tally,
+                disputes,
+                saved_links,
+                saved_rules,
+                saved_entries,
+                saved_disputes,
+                by,
+                known,
+            ),
+        },
     }
 }

@@ -8,48 +8,12 @@ use stores::Saved;
 use stores::store_shape;
 use tables::Refusal;
 ghost use mathlib.Core.Path.{_≡_};
-ghost use mathlib.Core.Bool.{true};
-ghost use mathlib.Core.List.{List};
-ghost use Prim.Native.Nat.{ℕ, _*_, _<_};
-ghost use lib.ListN.{length};
-ghost use Rattle.stores.specs.Name.{names};
-ghost use Rattle.stores.specs.Store.{lentStore, stored, saving, save, saved};
+ghost use Rattle.stores.specs.Store.{lentStore, save, saved};
 ghost use Rattle.tables.specs.Calls.{leaves};
-ghost use Rattle.tables.specs.Tables.{lent, Sized};
+ghost use Rattle.tables.specs.Tables.{lent};
 
-// Each table is copied to its place under a name, and the flag of the name is set. The tally is no part of a state.
-fn keep(
-    n: u16,
-    m: u16,
-    links: &[u8],
-    rules: &[u16],
-    entries: &[u16],
-    disputes: &[u16],
-    flags: &mut [u8],
-    saved_links: &mut [u8],
-    saved_rules: &mut [u16],
-    saved_entries: &mut [u16],
-    saved_disputes: &mut [u16],
-    name: Name,
-)
-    requires { ⌜ (Sized n m (now rules) (now entries)) × (length (now links) ≡ n * n) × (length (now disputes) ≡ m) ⌝ }
-    requires { ⌜ (stored n m (lentStore (now flags) (now «saved_links») (now «saved_rules») (now «saved_entries») (now «saved_disputes»)) ≡ true) × (name .0 < names) ⌝ }
-    ensures { λ _. ⌜ ((tally : List ℕ) → lentStore (now (flags .exit)) (now («saved_links» .exit)) (now («saved_rules» .exit)) (now («saved_entries» .exit)) (now («saved_disputes» .exit))
-        ≡ saving n m (lent (now (links .entry)) (now (rules .entry)) (now (entries .entry)) tally (now (disputes .entry)))
-        (lentStore (now (flags .entry)) (now («saved_links» .entry)) (now («saved_rules» .entry)) (now («saved_entries» .entry)) (now («saved_disputes» .entry))) (name .0)) ⌝ }
-{
-    let number = name.0 as usize;
-    let marks = m as usize;
-    let pairs = n as usize * n as usize;
-    let places = n as usize * marks;
-    copy_bytes(links, saved_links, number * pairs);
-    copy_numbers(rules, saved_rules, number * places);
-    copy_numbers(entries, saved_entries, number * places);
-    copy_numbers(disputes, saved_disputes, number * marks);
-    flags[number] = 1;
-}
-
-// The tables, sound or not, are saved under a name. A state that was saved under it before is replaced.
+// The tables, sound or not, are saved under a name: each is copied to its place there, but for the tally, which is no part of a state, and the flag of the
+// name is set. A state that was saved under it before is replaced.
 pub fn save(
     n: u16,
     m: u16,
@@ -85,20 +49,15 @@ pub fn save(
     match Name::new(name.0) {
         CheckedName::Outside => Saved::Refused(Refusal::Name),
         CheckedName::Name(known) => {
-            keep(
-                n,
-                m,
-                links,
-                rules,
-                entries,
-                disputes,
-                flags,
-                saved_links,
-                saved_rules,
-                saved_entries,
-                saved_disputes,
-                known,
-            );
+            let number = known.0 as usize;
+            let marks = m as usize;
+            let pairs = n as usize * n as usize;
+            let places = n as usize * marks;
+            copy_bytes(links, saved_links, number * pairs);
+            copy_numbers(rules, saved_rules, number * places);
+            copy_numbers(entries, saved_entries, number * places);
+            copy_numbers(disputes, saved_disputes, number * marks);
+            flags[number] = 1;
             Saved::Done
         }
     }

@@ -1,1 +1,1 @@
-pub mod ReturnCheck
+pub mod StateCheck
