@@ -1,5 +1,4 @@
 -- The edits of a list, step by step.
---     no-change                        a record whose number is none of the four
 --     begin-long                       refusal 1 of a list with too many records
 --     begin-first, begin-unsound       refusals 1 and 13, and 5, of one that has not
 --     begin-passed                     .. and what is ready where none is given
@@ -8,12 +7,11 @@
 --     next-going                       .. and what is ready after an accepted one
 -- Assumes nothing.
 use mathlib.Core.Path.{_≡_, refl, sym, _∙_, ap}
-use mathlib.Core.Bool.{Bool, true, false, _&&_, false≢true}
+use mathlib.Core.Bool.{Bool, true, false, _&&_}
 use mathlib.Core.List.{List}
-use mathlib.Core.Logic.{_≢_}
 use Prim.Native.Nat.{ℕ, _+_, _<_, _≤_}
 use native.Mathlib.Omega.{arith}
-use borrow.Author.Tests.{ne-eqb, lt-leb, le-leb}
+use borrow.Author.Tests.{lt-leb, le-leb}
 use lib.Dec.{leb, ltb}
 use Rattle.asking.specs.declared.CallerAsked.{CallerAsked}
 use Rattle.asking.specs.Ask.{checkedCaller}
@@ -30,17 +28,6 @@ use Rattle.tables.specs.Reply.{Reply, refused, given, whole, stopped, refusalNu
 use Rattle.tables.specs.Tables.{Tables, shaped, sound}
 use Rattle.tables.proofs.ListStepLaws.{edit-obeys, obeys-small}
 use Rattle.listing.specs.Ready.{Going}
-
--- ---- a record
-
-pub no-change : (e : Edit) → e .what ≢ 1 → e .what ≢ 2 → e .what ≢ 3 → e .what ≢ 4 → refused 19 ≡ changeIn e
-unfolding changeIn
-no-change e not-1 not-2 not-3 not-4 =
-    sym (skips _ _ _ (ne-eqb (e .what) 1 not-1) ∙ skips _ _ _ (ne-eqb (e .what) 2 not-2) ∙ skips _ _ _ (ne-eqb (e .what) 3 not-3) ∙ skips _ _ _ (ne-eqb (e .what) 4 not-4))
-  where
-    skips : (b : Bool) (x y : Reply Change) → b ≡ false → elim b [ true ↦ x | false ↦ y ] ≡ y
-    skips true x y e = absurd (false≢true (sym e))
-    skips false x y e = refl
 
 -- ---- the checks before the first
 

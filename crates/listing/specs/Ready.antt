@@ -1,5 +1,4 @@
 -- What is known between two edits of a list.
---     recorded    the change of a record, or its refusal, as the code has it
 --     Going       a list that goes on: the caller is one, all is known of the tables, and the counts so far have room
 --     Ready       .. if it does go on, by what it would answer now
 --     Few         .. and then fewer than so many edits are accepted
@@ -8,14 +7,8 @@ use mathlib.Core.List.{List}
 use Prim.Native.Nat.{ℕ, _*_, _<_, _≤_}
 use Rattle.resettling.specs.Known.{Known}
 use Rattle.tables.specs.Caller.{callers}
-use Rattle.tables.specs.Lists.{Change, changeOf}
 use Rattle.tables.specs.Reply.{Reply, refused, given, Listing, whole, stopped}
 use Rattle.tables.specs.Tables.{Tables}
-use Rattle.listing.specs.declared.Recorded.{Recorded}
-
-abbrev pub recorded : Recorded → Reply Change
-recorded (Recorded.Change change) = given (changeOf change)
-recorded Recorded.Unknown = refused 19
 
 -- an edit changes at most 128 × 64 entries
 pub record Going (n m caller : ℕ) (t : Tables) (accepted changed : ℕ) (rows order reach ruled : List ℕ) : Type 0 where

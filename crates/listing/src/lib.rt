@@ -1,13 +1,12 @@
 // The edits of a list one by one: the checks before the first, and each edit on tables that the list knows to be sound.
 use asking::CallerAsked;
 use asking::ask_caller;
-use inheritance::Kind;
-use inheritance::Mark;
 use known_edits::make_known;
+use records::Recorded;
+use records::change_in;
 use soundness::examine;
 use tables::Caller;
 use tables::Carried;
-use tables::Change;
 use tables::Edit;
 use tables::Edited;
 use tables::Refusal;
@@ -15,35 +14,13 @@ ghost use mathlib.Core.Path.{_≡_};
 ghost use lib.ListN.{length};
 ghost use Rattle.relation.specs.Bit.{Blank};
 ghost use Rattle.tables.specs.Calls.{leaves};
-ghost use Rattle.tables.specs.Lists.{changeIn, mostRecords, beginList, nextEdit};
+ghost use Rattle.tables.specs.Lists.{mostRecords, beginList, nextEdit};
 ghost use Rattle.tables.specs.Reply.{carried};
 ghost use Rattle.tables.specs.Tables.{lent};
-ghost use Rattle.listing.specs.Ready.{recorded, Ready, Few};
+ghost use Rattle.listing.specs.Ready.{Ready, Few};
 
 // The most records of a list.
 pub const MOST_RECORDS: usize = 4096;
-
-// The change that a record stands for, or that it is none.
-pub enum Recorded {
-    Change(Change),
-    Unknown,
-}
-
-// A record taken apart.
-fn change_in(edit: Edit) -> Recorded
-    ensures { λ r. ⌜ recorded r ≡ changeIn edit ⌝ }
-{
-    let what = edit.what;
-    let kind = Kind(edit.kind);
-    let other = edit.other;
-    match what {
-        1 => Recorded::Change(Change::AddRule(kind, Mark(other), edit.handling)),
-        2 => Recorded::Change(Change::TakeRule(kind, Mark(other))),
-        3 => Recorded::Change(Change::AddLink(kind, Kind(other))),
-        4 => Recorded::Change(Change::TakeLink(kind, Kind(other))),
-        _ => Recorded::Unknown,
-    }
-}
 
 // The checks before the first edit of a list of so many records, all by one caller. Where they are passed, all is ready for it.
 pub fn begin(

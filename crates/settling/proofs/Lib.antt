@@ -1,5 +1,4 @@
 -- What the proofs of several functions use.
 pub mod Editing
 pub mod Order
-pub mod Writing
 pub mod WholeLaws

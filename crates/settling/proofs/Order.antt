@@ -23,7 +23,8 @@ use Rattle.tables.specs.Tables.{entryAt, differing}
 use Rattle.tables.proofs.SoundLaws.{Looked, step-looked}
 use Rattle.tables.proofs.TableLaws.{differ-le, differing-self, place-split}
 use Rattle.propagation.specs.Spread.{Visited}
-use Rattle.settling.specs.Settled.{Written, Settling, Awaiting, Settled}
+use Rattle.writing.specs.Written.{Written}
+use Rattle.settling.specs.Settled.{Settling, Awaiting, Settled}
 use Rattle.deciding.proofs.DecidingLaws.{arranged-acyclic}
 
 differing-le : (xs ys : List ℕ) → differing xs ys ≤ length xs

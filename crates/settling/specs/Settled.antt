@@ -1,25 +1,16 @@
 -- Working out entries after a change: kinds in their order backwards, those above a kind before it, each visited kind from the entries of its parents.
---     Written             the entries of kind c for the marks from lo to below hi became as f says, and nothing else changed
 --     Settling            the kinds at the last t places are worked out; `count` entries differ so far from those at the start
 --     Awaiting, Settled   what `settle` asks and ensures of the entries
 --     AllSettled          every entry is its lookup, `count` of them differ from before, and the dispute counts are those of the entries
 -- Assumes nothing.
 use mathlib.Core.Path.{_≡_}
-use mathlib.Core.Logic.{_≢_, _⊎_}
+use mathlib.Core.Logic.{_⊎_}
 use mathlib.Core.Bool.{Bool}
 use mathlib.Core.List.{List}
 use Prim.Native.Nat.{ℕ, _+_, _*_, _<_, _≤_}
 use lib.ListN.{length, getD}
 use Rattle.propagation.specs.Spread.{Visited}
 use Rattle.tables.specs.Tables.{entryAt, entriesOf, disputesOf, differing}
-
-pub record Written (m lo hi c : ℕ) (f : ℕ → ℕ) (old new : List ℕ) (count : ℕ) : Type 0 where
-  pub size : length new ≡ length old
-  pub at : (j : ℕ) → lo ≤ j → j < hi → getD new (c * m + j) 0 ≡ f j
-  pub kept : (i : ℕ) → ((j : ℕ) → lo ≤ j → j < hi → i ≢ c * m + j) → getD new i 0 ≡ getD old i 0
-  pub counted : (start : List ℕ) → length start ≡ length old
-      → ((j : ℕ) → lo ≤ j → j < hi → getD start (c * m + j) 0 ≡ getD old (c * m + j) 0)
-      → differing start new ≡ differing start old + count
 
 pub record Settling (n m lo hi : ℕ) (up : ℕ → ℕ → Bool) (rules visited order : List ℕ) (t : ℕ) (start new : List ℕ) (count : ℕ) : Type 0 where
   pub size : length new ≡ length start

@@ -1,3 +1,2 @@
 pub mod PassingLaws
-pub mod ShortLaws
 pub mod StreamLaws

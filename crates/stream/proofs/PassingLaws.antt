@@ -18,13 +18,14 @@ use Rattle.tables.specs.Lists.{run}
 use Rattle.tables.specs.Tables.{Tables}
 use Rattle.session.specs.Line.{Book, lineOf}
 use Rattle.session.specs.Session.{answers, written}
-use Rattle.stream.specs.declared.State.{State}
+use Rattle.replying.specs.declared.State.{State}
 use Rattle.buffers.specs.Buffers.{cut}
 use Rattle.stream.specs.Stream.{ended, begun, Passed, passed}
 use Rattle.buffers.specs.Buffers.{LineEnd, Put, Added}
-use Rattle.stream.specs.Blocks.{held, Replied, Worked}
+use Rattle.replying.specs.Replied.{held, Replied}
+use Rattle.stream.specs.Blocks.{Worked}
 use Rattle.buffers.proofs.BufferLaws.{put-none, put-more}
-use Rattle.stream.proofs.ShortLaws.{answer-short}
+use Rattle.replying.proofs.ShortLaws.{answer-short}
 use Rattle.stream.proofs.StreamLaws.{behind, turned, passed-feed, passed-byte}
 
 abbrev NoFeed : List ℕ → Type 0

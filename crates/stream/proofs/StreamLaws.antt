@@ -23,8 +23,9 @@ use Rattle.session.specs.Line.{Book, Turn, lineOf, turnOf}
 use Rattle.session.specs.Parts.{bookIn}
 use Rattle.session.specs.Session.{start, bookAfter, answers, linesFrom, written, session}
 use Rattle.session.proofs.SessionLaws.{answers-apart, written-apart}
-use Rattle.stream.specs.declared.State.{State}
-use Rattle.stream.specs.Blocks.{held, Replied, Closed, Fresh, Streaming, ends, works}
+use Rattle.replying.specs.declared.State.{State}
+use Rattle.replying.specs.Replied.{held, Replied}
+use Rattle.stream.specs.Blocks.{Closed, Fresh, Streaming, ends, works}
 use Rattle.buffers.specs.Buffers.{cut}
 use Rattle.stream.specs.Stream.{ended, begun, last, Passed, passed, closed, streamed}
 use Rattle.buffers.proofs.BufferLaws.{put-none, put-front}

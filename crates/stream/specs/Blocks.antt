@@ -1,5 +1,4 @@
 -- What the functions leave in the buffers and the tables.
---     Replied    a line is answered
 --     Worked     a block is passed
 --     Closed     the input has ended
 --     Fresh      the state before the first block
@@ -12,20 +11,11 @@ use lib.ListN.{length, take, replicate}
 use Rattle.buffers.specs.Buffers.{Put}
 use Rattle.tables.specs.Caller.{callers}
 use Rattle.tables.specs.Tables.{Tables, lent}
-use Rattle.session.specs.Line.{Book, Turn}
 use Rattle.session.specs.Parts.{bookIn}
 use Rattle.session.specs.Session.{start}
-use Rattle.stream.specs.declared.State.{State}
+use Rattle.replying.specs.declared.State.{State}
+use Rattle.replying.specs.Replied.{held}
 use Rattle.stream.specs.Stream.{Passed, passed, closed}
-
--- the book that stands in the tables
-abbrev pub held : State → Tables → Book
-held s t = bookIn (s .n) (s .m) t
-
-pub record Replied (turn : Turn) (at : ℕ) (out : List ℕ) (r : State) (after : Tables) (out-after : List ℕ) : Type 0 where
-  pub book : held r after ≡ turn .book
-  pub carried : r .carried ≡ 0
-  pub output : Put (turn .printed ++ (10 ∷ [])) out at (r .waiting) out-after
 
 pub record Worked (p : Passed) (at : ℕ) (out : List ℕ) (r : State) (after : Tables) (carry-after out-after : List ℕ) : Type 0 where
   pub book : held r after ≡ p .book

@@ -8,7 +8,8 @@ use Rattle.tables.specs.declared.Carried.{Carried}
 use Rattle.tables.specs.Lists.{changeOf, changeIn, nextEdit, mostRecords}
 use Rattle.tables.specs.Reply.{given, carried}
 use Rattle.tables.specs.Tables.{Tables, lent}
-use Rattle.listing.specs.Ready.{recorded, Ready, Few, Going}
+use Rattle.records.specs.Record.{recorded}
+use Rattle.listing.specs.Ready.{Ready, Few, Going}
 use Rattle.listing.proofs.ListingLaws.{answers, next-unknown, next-made, next-going}
 use Rattle.listing.proofs.step.Statement.{statement}
 use Rattle.listing.proofs.step.Tie as tie

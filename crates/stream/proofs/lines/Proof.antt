@@ -7,7 +7,7 @@ use borrow.Author.Needs.{needs}
 use lib.ListN.{length, take}
 use Rattle.tables.specs.Tables.{lent}
 use Rattle.stream.specs.Stream.{passed}
-use Rattle.stream.specs.Blocks.{held}
+use Rattle.replying.specs.Replied.{held}
 use Rattle.stream.proofs.PassingLaws.{Passing, begins, answered, finished}
 use Rattle.stream.proofs.lines.Statement.{statement}
 use Rattle.stream.proofs.lines.Tie as tie
