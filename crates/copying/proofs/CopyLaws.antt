@@ -1,12 +1,12 @@
 -- Copying a table into another, and counting where two differ, as the invariants of loops.
 --     Copied                                     the first i elements of the source stand in the table from a place on
 --     copied-none, copied-more, copied-all       where the loop begins, what a turn does, and what the loop leaves
---     differs-byte, byte-few                     a test as a number, as code has it
+--     byte-few                                   a test as a number is at most 1
 --     DifferingBefore                            as many of the first i places as the count says differ
 --     before-none, before-more, before-all       likewise; before-fits: there is room for one more
 -- Assumes nothing.
 use mathlib.Core.Path.{_≡_, refl, sym, ap, _∙_}
-use mathlib.Core.Bool.{Bool, true, false}
+use mathlib.Core.Bool.{Bool}
 use mathlib.Core.List.{List}
 use Prim.Native.Nat.{ℕ, _+_, _≤_, _<_}
 use native.Mathlib.Omega.{arith}
@@ -18,7 +18,7 @@ use lib.Seq.{paste, paste-zero, paste-suc}
 use Rattle.inheritance.specs.Above.{count, one-if}
 use Rattle.tables.specs.Edit.{apart}
 use Rattle.tables.specs.Tables.{differing}
-use Rattle.tables.proofs.DisputeLaws.{one-if-few}
+use Rattle.tables.proofs.DisputeLaws.{one-if-few, bool-byte}
 use Rattle.tables.proofs.TableLaws.{differing-count}
 
 -- ---- a copy
@@ -62,13 +62,8 @@ pub before-none : (old new : List ℕ) → (length old ≡ length new) × (lengt
 unfolding count
 before-none old new lengths = record { within = omega arith; whole = refl; lengths = lengths; so-far = refl; few = omega arith }
 
--- a test as a number, as code has it
-pub differs-byte : (b : Bool) → boolByte b ≡ one-if b
-differs-byte true = refl
-differs-byte false = refl
-
 pub byte-few : (b : Bool) → boolByte b ≤ 1
-byte-few b = omega (arith, differs-byte b, one-if-few b)
+byte-few b = omega (arith, bool-byte b, one-if-few b)
 
 module _ {old new : List ℕ} {end counted i : ℕ} (d : DifferingBefore old new end counted i) where
   pub before-fits : {more : ℕ} → i < end → more ≤ 1 → Fits w16 (counted + more)

@@ -1,5 +1,4 @@
 -- Dispute counts, counted kind by kind and kept where an entry changes.
---     dispute-byte                                  whether an entry is a dispute, as code computes it
 --     none-counted                                  before the first kind every count is 0
 --     counting-none, counting-store, counting-row   the entries of one kind are counted in: no mark, one more, all
 --     counting-few                                  a count that is not yet done is at most the kinds before
@@ -10,14 +9,12 @@
 -- Assumes nothing.
 use mathlib.Core.Path.{_≡_, refl, sym, _∙_, ap, subst}
 use mathlib.Core.Logic.{_≢_, _⊎_, inl, inr, ⊎-elim, by-cases}
-use mathlib.Core.Bool.{Bool, true, false}
 use mathlib.Core.List.{List}
 use Prim.Native.Nat.{ℕ, _+_, _*_, _<_, _≤_}
 use native.Mathlib.Nat.{eq-or-lt-of-le, div-lt-iff-lt-mul}
 use native.Mathlib.Decide.{ℕ-discrete}
 use native.Mathlib.Numerals.{add-one}
 use native.Mathlib.Omega.{arith}
-use mir.Val.{boolByte}
 use lib.Arith.{digits-div}
 use lib.ListN.{length, getD, set, replicate, length-set, length-replicate}
 use lib.Seq.{getD-set-same, getD-set-other}
@@ -28,10 +25,6 @@ use Rattle.tables.proofs.BookLaws.{zeros-at}
 use Rattle.tables.proofs.DisputeLaws.{at-most, length-disputes, disputes-at, disputes-ext}
 use Rattle.tables.proofs.TableLaws.{place-split}
 use Rattle.counting.specs.Counting.{countedIn, countedAnew, Counting, Counted}
-
-pub dispute-byte : (b : Bool) → boolByte b ≡ one-if b
-dispute-byte true = refl
-dispute-byte false = refl
 
 pub none-counted : (m : ℕ) (entries : List ℕ) → replicate m 0 ≡ disputesOf 0 m entries
 unfolding disputesAt count

@@ -10,7 +10,7 @@ use Prim.Native.Nat.{ℕ, _<_}
 use native.Mathlib.Omega.{arith}
 use lib.Dec.{eqb, ltb}
 use lib.ListN.{getD}
-use borrow.Author.Tests.{ltb-true}
+use borrow.Author.Tests.{ltb-true, lt-ltb}
 use Rattle.stores.specs.declared.Name.{Name}
 use Rattle.stores.specs.declared.CheckedName.{CheckedName}
 use Rattle.stores.specs.Name.{names, name, nameBelow}
@@ -27,7 +27,7 @@ nameOr below number = cond below (CheckedName.Name (name number)) CheckedName.Ou
 -- k is the name with a number, and a state was saved under it
 pub record AskedUnder (flags : List ℕ) (number : ℕ) (k : Name) : Type 0 where
   pub the-name : k ≡ name number
-  pub name-below : ltb number names ≡ true
+  pub name-below : number < names
   pub saved : eqb (getD flags number 0) 0 ≡ false
 
 module _ (flags : List ℕ) (number : ℕ) where
@@ -36,7 +36,7 @@ module _ (flags : List ℕ) (number : ℕ) where
     where
       state : ltb number names ≡ true → (q : Bool) → eqb (getD flags number 0) 0 ≡ q → unlessEmpty q (name number) ≡ StateAsked.Under k → AskedUnder flags number k
       state low true is e = let z : _≡_ {A = ℕ} 0 1 = cc in absurd (omega arith)
-      state low false is e = record { the-name = cc; name-below = low; saved = is }
+      state low false is e = record { the-name = cc; name-below = ltb-true number names low; saved = is }
 
       go : (p : Bool) → ltb number names ≡ p → askedState flags (nameOr p number) ≡ StateAsked.Under k → AskedUnder flags number k
       go false is e = let z : _≡_ {A = ℕ} 0 1 = cc in absurd (omega arith)
@@ -45,7 +45,7 @@ module _ (flags : List ℕ) (number : ℕ) where
   module _ (t : Tables) (next : Outcome ℕ) where
     pub state-passes : {k : Name} → AskedUnder flags number k → check 14 (ltb number names) t (check 15 (not (eqb (getD flags number 0) 0)) t next) ≡ next
     unfolding check
-    state-passes a = rw (a .name-below, a .saved) refl
+    state-passes a = rw (lt-ltb number names (a .name-below), a .saved) refl
 
     pub state-refuses : {why : Refusal} → askedState flags (nameBelow number) ≡ StateAsked.Refused why
         → check 14 (ltb number names) t (check 15 (not (eqb (getD flags number 0) 0)) t next) ≡ leaves (refused (refusalNumber why)) t

@@ -1,10 +1,11 @@
 -- The dispute counts of a table of entries.
+--     one-if-few, bool-byte                          what a test counts: at most one, and the number that code makes of it
 --     length-disputes, disputes-at, disputes-ext     the table of the counts has them at its places, and a list that has them is that table
 --     counts-mean, mean-counts                       a table that passes the test of every count is that table, and the other way round
 --     at-most                                        no more kinds have a dispute entry than there are
 --     some-entry                                     where the counts of a mark differ, so do the entries of some kind; some-place: of any place of the tables
 -- Assumes nothing.
-use mathlib.Core.Path.{_≡_, sym, _∙_, ap}
+use mathlib.Core.Path.{_≡_, refl, sym, _∙_, ap}
 use mathlib.Core.Bool.{Bool, true, false}
 use mathlib.Core.List.{List}
 use mathlib.Core.Logic.{_≢_, by-cases}
@@ -12,6 +13,7 @@ use Prim.Native.Nat.{ℕ, zero, suc, _+_, _*_, _<_, _≤_, zero-le}
 use native.Mathlib.Decide.{decLt, ℕ-discrete}
 use native.Mathlib.Omega.{arith}
 use borrow.Author.Tests.{eqb-true, eq-eqb}
+use mir.Val.{boolByte}
 use lib.ListN.{length, getD, List·getD-eq-default}
 use lib.Seq.{ext-getD}
 use Rattle.inheritance.specs.Above.{one-if, count}
@@ -21,6 +23,10 @@ use Rattle.tables.proofs.TableLaws.{below-true, true-below, length-list
 pub one-if-few : (b : Bool) → one-if b ≤ 1
 one-if-few true = omega arith
 one-if-few false = omega arith
+
+pub bool-byte : (b : Bool) → boolByte b ≡ one-if b
+bool-byte true = refl
+bool-byte false = refl
 
 count-few : (f : ℕ → Bool) (k : ℕ) → count f k ≤ k
 unfolding count

@@ -1,4 +1,5 @@
 -- What an edit can touch (docs/SCOPE.md), on the tables before the edit or after it. An entry at (k, j) may differ only where the edit touches it.
+-- These are limits of the four edits, by themselves and in a list. A return to a saved state is not held to them: it may alter any entry.
 --     RuleTouches    the edit is of the rule of kind c for a mark
 --     LinkTouches    the edit is of the link from child c to parent p
 -- Assumes nothing.

@@ -4,7 +4,8 @@ use native.Mathlib.Omega.{arith}
 use denote.Ref.{now}
 use borrow.Author.Needs.{needs}
 use Rattle.tables.specs.Edit.{apart}
-use Rattle.copying.proofs.CopyLaws.{DifferingBefore, differs-byte, before-none, byte-few, before-fits, before-more, before-all}
+use Rattle.tables.proofs.DisputeLaws.{bool-byte}
+use Rattle.copying.proofs.CopyLaws.{DifferingBefore, before-none, byte-few, before-fits, before-more, before-all}
 use Rattle.copying.proofs.count_differing.Statement.{statement}
 use Rattle.copying.proofs.count_differing.Tie as tie
 
@@ -23,7 +24,7 @@ add-count c = before-fits (c .before .before .before .loop .inv) (c .before .bef
 loop-again : tie.Need-loop-again Inv-loop μ-loop
 loop-again c =
     let l = c .before .before .before in
-    before-more (l .loop .inv) (c .before .before .loop-test .taken) (differs-byte (apart (now (l .before .args .old)) (now (l .before .args .new)) (l .loop .i)))
+    before-more (l .loop .inv) (c .before .before .loop-test .taken) (bool-byte (apart (now (l .before .args .old)) (now (l .before .args .new)) (l .loop .i)))
 
 pub count-differing-spec : {M : Type 1} → statement M
 count-differing-spec =

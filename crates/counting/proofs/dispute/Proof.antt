@@ -2,15 +2,14 @@
 use native.Mathlib.Omega.{arith}
 use borrow.Author.Needs.{needs}
 use Rattle.tables.specs.Tables.{is-dispute}
-use Rattle.tables.proofs.DisputeLaws.{one-if-few}
-use Rattle.counting.proofs.CountLaws.{dispute-byte}
+use Rattle.tables.proofs.DisputeLaws.{one-if-few, bool-byte}
 use Rattle.counting.proofs.dispute.Statement.{statement}
 use Rattle.counting.proofs.dispute.Tie as tie
 
 returns : tie.Need-returns
 returns c =
     let is = is-dispute (c .args .entry) in
-    (dispute-byte is, omega (arith, dispute-byte is, one-if-few is))
+    (bool-byte is, omega (arith, bool-byte is, one-if-few is))
 
 pub dispute-spec : {M : Type 1} → statement M
 dispute-spec = tie.close (tie.spec (λ c. search needs) returns)

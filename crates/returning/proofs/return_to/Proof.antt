@@ -3,7 +3,7 @@ use mathlib.Core.Path.{_≡_, sym, _∙_}
 use mathlib.Core.Bool.{true}
 use denote.Ref.{now}
 use borrow.Author.Needs.{needs}
-use borrow.Author.Tests.{ltb-true, not-true, not-false}
+use borrow.Author.Tests.{not-true, not-false}
 use Rattle.asking.proofs.AskLaws.{AskedBy, asked-by}
 use Rattle.stores.specs.Store.{Store, lentStore, stored}
 use Rattle.stores.proofs.StoreLaws.{stored-facts}
@@ -60,7 +60,7 @@ bring-back-requires c κs =
       (caller .fits, rw (caller .the-caller) (caller .caller-below)),
       (
         record { links-length = l .links-length; rules-length = l .rules-length; entries-length = l .entries-length; disputes-length = l .disputes-length },
-        rw (name .the-name) (ltb-true _ _ (name .name-below)),
+        rw (name .the-name) (name .name-below),
       ),
     )
 
