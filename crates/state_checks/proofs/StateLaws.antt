@@ -4,7 +4,7 @@
 --     state-refuses    .. and of one that is refused
 -- Assumes nothing.
 use mathlib.Core.Path.{_≡_, refl}
-use mathlib.Core.Bool.{Bool, true, false, cond, not}
+use mathlib.Core.Bool.{Bool, true, false, not}
 use mathlib.Core.List.{List}
 use Prim.Native.Nat.{ℕ, _<_}
 use native.Mathlib.Omega.{arith}
@@ -12,17 +12,14 @@ use lib.Dec.{eqb, ltb}
 use lib.ListN.{getD}
 use borrow.Author.Tests.{ltb-true, lt-ltb}
 use Rattle.stores.specs.declared.Name.{Name}
-use Rattle.stores.specs.declared.CheckedName.{CheckedName}
 use Rattle.stores.specs.Name.{names, name, nameBelow}
+use Rattle.stores.proofs.NameLaws.{nameOr}
 use Rattle.tables.specs.declared.Refusal.{Refusal}
 use Rattle.tables.specs.Calls.{Outcome, leaves, check}
 use Rattle.tables.specs.Reply.{refused, refusalNumber}
 use Rattle.tables.specs.Tables.{Tables}
 use Rattle.state_checks.specs.declared.StateAsked.{StateAsked}
 use Rattle.state_checks.specs.StateCheck.{unlessEmpty, askedState}
-
-abbrev nameOr : Bool → ℕ → CheckedName
-nameOr below number = cond below (CheckedName.Name (name number)) CheckedName.Outside
 
 -- k is the name with a number, and a state was saved under it
 pub record AskedUnder (flags : List ℕ) (number : ℕ) (k : Name) : Type 0 where

@@ -1,4 +1,5 @@
 -- What the checked constructor of a name has tested.
+--     nameOr            what it gives, by whether the number is below the most names
 --     named, unnamed    where it gives a name, and where not
 -- Assumes nothing.
 use mathlib.Core.Path.{_≡_, refl}
@@ -11,7 +12,7 @@ use Rattle.stores.specs.declared.Name.{Name}
 use Rattle.stores.specs.declared.CheckedName.{CheckedName}
 use Rattle.stores.specs.Name.{names, name, nameBelow}
 
-abbrev nameOr : Bool → ℕ → CheckedName
+abbrev pub nameOr : Bool → ℕ → CheckedName
 nameOr below number = cond below (CheckedName.Name (name number)) CheckedName.Outside
 
 module _ (number : ℕ) where
