@@ -12,7 +12,7 @@ use Prim.Native.Nat.{ℕ, ◌+◌, ◌≤◌, ◌<◌}
 use native.Mathlib.Omega.{arith}
 use native.Mathlib.Numerals.{add-one}
 use mir.Syntax.{w16}
-use mir.Val.{Fits, bool_byte}
+use mir.Val.{Fits, bool_byte as byte_of_bool}
 use lib.ListN.{length, get_or, set, length-set}
 use lib.Seq.{paste, paste-zero, paste-suc}
 use Rattle.inheritance.specs.Above.{count, one_if}
@@ -62,7 +62,7 @@ pub before_none : (old new : List ℕ) → (length old ≡ length new) × (lengt
 unfolding count
 before_none old new lengths = record { within = omega arith; whole = refl; lengths = lengths; so_far = refl; few = omega arith }
 
-pub byte_few : (b : Bool) → bool_byte b ≤ 1
+pub byte_few : (b : Bool) → byte_of_bool b ≤ 1
 byte_few b = omega (arith, bool_byte b, one_if_few b)
 
 module _ {old new : List ℕ} {end counted i : ℕ} (d : DifferingBefore old new end counted i) where

@@ -13,7 +13,7 @@ use Prim.Native.Nat.{ℕ, zero, suc, ◌+◌, ◌*◌, ◌<◌, ◌≤◌, zero-
 use native.Mathlib.Decide.{dec_lt, ℕ_discrete}
 use native.Mathlib.Omega.{arith}
 use borrow.Author.Tests.{eqb-true, eq-eqb}
-use mir.Val.{bool_byte}
+use mir.Val.{bool_byte as byte_of_bool}
 use lib.ListN.{length, get_or, get_or-eq_default}
 use lib.Seq.{ext_get_or}
 use Rattle.inheritance.specs.Above.{one_if, count}
@@ -24,7 +24,7 @@ pub one_if_few : (b : Bool) → one_if b ≤ 1
 one_if_few true = omega arith
 one_if_few false = omega arith
 
-pub bool_byte : (b : Bool) → bool_byte b ≡ one_if b
+pub bool_byte : (b : Bool) → byte_of_bool b ≡ one_if b
 bool_byte true = refl
 bool_byte false = refl
 
