@@ -1,0 +1,8 @@
+-- `loading::load_words` meets its contract, by `filled_words`. Assumes nothing.
+use Rattle.loading.proofs.Spacing.{filled_words}
+use Rattle.loading.proofs.load_words.Goals as goal
+
+pub returns : goal.returns
+returns c =
+    filled_words c.args.n c.args.c _ c.args.links.now c.args.rows.now _ _ c.requires.1 c.requires.2
+    c.most_eight-low.ensures c.word.ensures c.word-2.ensures c.requires.4
