@@ -1,0 +1,7 @@
+-- `resettling::resettling::resettle_rule` meets its contract: the stops are the kinds with an own rule. Assumes nothing.
+use mathlib.Core.Path.{sym}
+use Rattle.resettling.proofs.ResettleLaws.{untouched_stops}
+use Rattle.resettling.proofs.resettling.resettle_rule.Goals as goal
+
+pub resettle-requires-clause-untouched : goal.resettle-requires-clause-untouched
+resettle-requires-clause-untouched c = untouched_stops _ _ _ _ _ _ _ _ _ _ (λ k h. sym (c.own_rules.ensures.at k h)) c.requires.untouched

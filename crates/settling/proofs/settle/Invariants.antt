@@ -1,0 +1,11 @@
+-- `settling::settle` meets its contract. The loop's invariant: the kinds at the last t places are worked out, and the counts are those of the entries.
+-- Assumes nothing.
+use Prim.Native.Nat.{◌≤◌}
+use Rattle.counting.specs.Counting.{Counted}
+use Rattle.relation.specs.Bit.{bit}
+use Rattle.settling.specs.Settled.{Settling}
+use Rattle.settling.proofs.settle.Given as goal
+
+abbrev pub invariant-loop-t : goal.invariant-loop-t
+invariant-loop-t l =
+    (l.t ≤ l.n) × Settling l.n l.m l.lo l.hi (bit l.rows) l.rules l.visited l.order l.t l.initial.entries l.entries l.count × Counted l.m l.entries l.disputes
