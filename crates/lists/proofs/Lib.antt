@@ -1,8 +1,3 @@
--- The steps of a walk that other walks can use too.
-pub mod Frames
-pub mod Tests
-pub mod Again
-pub mod Books
-pub mod Arrays
+-- The laws of the loop.
 pub mod FewLaws
 pub mod ListLoop

@@ -1,5 +1,4 @@
-// A list of edits in one call. The list is a slice of records, so this one function is proved by a walk along its code; all that it
-// does stands in `listing`, which takes one record at a time.
+// A list of edits in one call. All that it does stands in `listing`, which takes one record at a time.
 #![tactic(auto)]
 
 ghost use Rattle.std.specs.Prelude.{◌≡◌};
