@@ -10,6 +10,7 @@ use patterns::fill;
 use tables::{Answer, Edited, Found, Opened, Refusal};
 
 // The line of a refusal.
+#[tactic(auto, unfolding(patterns::specs::Pattern::slots, patterns::specs::Pattern::filled))]
 pub fn print_refused(why: Refusal, out: &mut [u8; 64]) -> usize
     ensures { Printed (printed_refused (refusal_number why)) out.old result out.new }
 {
@@ -18,6 +19,7 @@ pub fn print_refused(why: Refusal, out: &mut [u8; 64]) -> usize
 }
 
 // The line of what open answers about a book of n kinds and m marks.
+#[tactic(auto, unfolding(patterns::specs::Pattern::slots, patterns::specs::Pattern::filled))]
 fn print_opened(reply: Opened, n: u16, m: u16, out: &mut [u8; 64]) -> usize
     ensures { Printed (printed_opened n m (opened reply)) out.old result out.new }
 {
@@ -31,6 +33,7 @@ fn print_opened(reply: Opened, n: u16, m: u16, out: &mut [u8; 64]) -> usize
 }
 
 // The line of what an edit answers.
+#[tactic(auto, unfolding(patterns::specs::Pattern::slots, patterns::specs::Pattern::filled))]
 fn print_edited(reply: Edited, out: &mut [u8; 64]) -> usize
     ensures { Printed (printed_edited (edited reply)) out.old result out.new }
 {
@@ -44,6 +47,7 @@ fn print_edited(reply: Edited, out: &mut [u8; 64]) -> usize
 }
 
 // The line of what find answers.
+#[tactic(auto, unfolding(patterns::specs::Pattern::slots, patterns::specs::Pattern::filled))]
 fn print_found(reply: Found, out: &mut [u8; 64]) -> usize
     ensures { Printed (printed_found (found reply)) out.old result out.new }
 {

@@ -3,7 +3,6 @@
 
 ghost use Rattle.std.specs.Prelude.{◌+◌, ◌≤◌, ◌<◌, length};
 
-use libc::STDOUT_FILENO;
 use session::Turned;
 use tables::TALLIES;
 
@@ -16,7 +15,8 @@ struct State {
 }
 
 // Carries out a line and prints it with its answer. The text is scratch for the answer.
-fn show(
+fn show<R: Print>(
+    rt: &R,
     line: &[u8],
     n: u16,
     m: u16,
@@ -30,15 +30,16 @@ fn show(
     let turned = session::line(line, n, m, links, rules, entries, tally, disputes, text);
     let whole: &[u8] = text;
     let length = turned.length;
-    io::write_all(STDOUT_FILENO, line);
-    io::write_all(STDOUT_FILENO, b" -> ");
-    io::write_all(STDOUT_FILENO, &whole[..length]);
-    io::write_all(STDOUT_FILENO, b"\n");
+    let _ = rt.write_all(line);
+    let _ = rt.write_all(b" -> ");
+    let _ = rt.write_all(&whole[..length]);
+    let _ = rt.write_all(b"\n");
     turned
 }
 
 // Takes one byte more of the lines: where it ends a line, the line is carried out.
-fn step(
+fn step<R: Print>(
+    rt: &R,
     lines: &[u8],
     at: usize,
     state: State,
@@ -57,6 +58,7 @@ fn step(
     }
     let from = state.from;
     let turned = show(
+        rt,
         &lines[from..at],
         state.n,
         state.m,
@@ -75,7 +77,8 @@ fn step(
 }
 
 // The lines, each of which ends in a line feed, one after the other.
-fn run(
+fn run<R: Print>(
+    rt: &R,
     lines: &[u8],
     links: &mut [u8; 16384],
     rules: &mut [u16; 8192],
@@ -92,13 +95,13 @@ fn run(
     let mut at = 0;
     while at < lines.len() {
         state = step(
-            lines, at, state, links, rules, entries, tally, disputes, text,
+            rt, lines, at, state, links, rules, entries, tally, disputes, text,
         );
         at += 1;
     }
 }
 
-fn main() {
+fn main(rt: HostRuntime) {
     let mut links = [0u8; 16384];
     let mut rules = [0u16; 8192];
     let mut entries = [0u16; 8192];
@@ -127,6 +130,7 @@ fn main() {
 (these 65 bytes are one more than any line may have, and no form)\n\
 (open 128 64)\n(find 127 63)\n(add (under 127 127))\n";
     run(
+        &rt,
         lines,
         &mut links,
         &mut rules,

@@ -21,6 +21,7 @@ pub enum Match {
 }
 
 // Whether a byte is a decimal digit.
+#[tactic(auto, unfolding(crate::specs::Decimal::is_digit))]
 fn is_digit(b: u8) -> bool
     ensures { result ≡ is_digit b }
 {
@@ -131,6 +132,7 @@ pub fn fit(here: bool, pattern: &[u8], line: &[u8], from: usize) -> Match
 }
 
 // How many digits a number has.
+#[tactic(auto, unfolding(crate::specs::Decimal::width))]
 fn count_digits(v: u16) -> usize
     ensures { result ≡ width v }
 {

@@ -4,35 +4,40 @@
 
 ghost use Rattle.std.specs.Prelude.{◌≤◌, length};
 
-use libc::{STDIN_FILENO, STDOUT_FILENO};
+use std::io::Read;
 use stream::{BLOCK, OUTPUT};
 use tables::TALLIES;
 
 // Reads a block, and answers how many bytes came: 0 at the end of the input. An input that cannot be read is said, and ends there.
-fn read(block: &mut [u8; BLOCK]) -> usize {
-    let whole: &mut [u8] = block;
-    let got = libc::read(STDIN_FILENO, whole);
-    if got < 0 {
-        os::fail(b"rulebook: standard input");
+fn read<R: Eprint>(rt: &R, input: &mut impl Read, block: &mut [u8; BLOCK]) -> usize {
+    match input.read(block) {
+        Ok(count) => count,
+        Err(why) => {
+            let _ = eprintln!(rt; "rulebook: standard input: {why}");
+            0
+        }
     }
-    io::count(got, whole)
 }
 
 // Writes what stands at the front of the output, and answers whether it was taken. Output that is lost is said.
-fn write(out: &[u8; OUTPUT], waiting: usize) -> bool
+fn write<R: Print + Eprint>(rt: &R, out: &[u8; OUTPUT], waiting: usize) -> bool
     requires { waiting ≤ length out.now }
 {
     let whole: &[u8] = out;
-    let taken = io::write_all(STDOUT_FILENO, &whole[..waiting]);
-    if !taken {
-        os::fail(b"rulebook: standard output");
+    match rt.write_all(&whole[..waiting]) {
+        Ok(()) => true,
+        Err(why) => {
+            let _ = eprintln!(rt; "rulebook: standard output: {why}");
+            false
+        }
     }
-    taken
 }
 
 // Answers the whole input, block by block. After a write that failed there is nobody to answer, and nothing more is written. A proved loop
 // has to end, and nothing says that the input does: the turns count down from a number that no run uses up.
-fn run(
+#[tactic(auto, using(buffers::proofs::BufferLaws::put_fits))]
+fn run<R: Input + Print + Eprint>(
+    rt: &R,
     block: &mut [u8; BLOCK],
     carry: &mut [u8; 65],
     links: &mut [u8; 16384],
@@ -42,27 +47,28 @@ fn run(
     disputes: &mut [u16; 64],
     out: &mut [u8; OUTPUT],
 ) {
+    let mut input = rt.reader();
     let mut state = stream::fresh();
     let mut taken = true;
     let mut coming = true;
     let mut turns = u64::MAX;
     while (0 < turns) & coming {
-        let count = read(block);
+        let count = read(rt, &mut input, block);
         state = stream::work(
             block, count, state, carry, links, rules, entries, tally, disputes, out,
         );
-        taken = write(out, state.waiting);
+        taken = write(rt, out, state.waiting);
         coming = (0 < count) & taken;
         turns -= 1;
     }
     if taken {
         let waiting = stream::close(state, carry, links, rules, entries, tally, disputes, out);
-        write(out, waiting);
+        write(rt, out, waiting);
     }
 }
 
 // The tables of the largest book, and the buffers.
-fn main() {
+fn main(rt: HostRuntime) {
     let mut links = [0u8; 16384];
     let mut rules = [0u16; 8192];
     let mut entries = [0u16; 8192];
@@ -72,6 +78,7 @@ fn main() {
     let mut block = [0u8; BLOCK];
     let mut out = [0u8; OUTPUT];
     run(
+        &rt,
         &mut block,
         &mut carry,
         &mut links,
