@@ -2,9 +2,9 @@
    a list of them, save states of it and return to them, see whose rules are in dispute, inspect a book and refresh it.
    The find is in lane.h.
 
-   docs/SCOPE.md says call by call what the product does, and the library is proved to do it. "rt staticlib house"
-   writes target/staticlib/libhouse.a, which links into x86-64 programs, beside liblane.a where a program asks the find
-   too.
+   docs/SCOPE.md says call by call what the product does, and the library is proved to do it. "rt lib" in
+   crates/house writes crates/house/out/libhouse.a, which links into x86-64 programs, beside liblane.a where a program
+   asks the find too.
 
    THE BOOK. A book has n kinds (1 to 128, numbered from 0) and m marks (1 to 64, numbered from 0). It is five tables,
    which are the program's own memory:

@@ -1,7 +1,7 @@
 /* A house in small: it opens a book, edits it for two suppliers while a lane asks, sees a dispute, mends a damaged
    copy, enters a list of edits, and saves the book to return to it.
 
-     cc -o house_example c/house_example.c target/staticlib/libhouse.a target/staticlib/liblane.a */
+     cc -o house_example c/house_example.c crates/house/out/libhouse.a crates/lane/out/liblane.a */
 
 #include <stdio.h>
 

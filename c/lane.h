@@ -1,7 +1,8 @@
 /* The find of the rule tree, for line controllers written in C or C++.
 
-   docs/SCOPE.md says what it does, and the library is proved to do it. "rt staticlib lane" writes
-   target/staticlib/liblane.a, which links into x86-64 programs. The calls that make and edit a book are in house.h.
+   docs/SCOPE.md says what it does, and the library is proved to do it. "rt lib" in crates/lane
+   writes crates/lane/out/liblane.a, which links into x86-64 programs. The calls that make and edit a book are in
+   house.h.
 
    A book has n kinds (1 to 128, numbered from 0) and m marks (1 to 64, numbered from 0). It is five tables:
 

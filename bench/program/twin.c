@@ -8,7 +8,7 @@ enum { KINDS = 128, MARKS = 64, LONGEST = 64, ANSWER = 32, BLOCK = 65536, REFUSE
 static uint8_t links[KINDS * KINDS];
 static uint16_t rules[KINDS * MARKS], entries[KINDS * MARKS], disputes[MARKS];
 static uint32_t tally[CALLERS];
-static struct book book = {0, 0, links, rules, entries, tally, disputes, 0, 0, 0, CALLERS, 0};
+static struct book book = {0, 0, links, rules, entries, tally, disputes, 0, 0, 0, CALLERS, 0, NULL};
 
 /* Whoever writes the text is one caller. */
 enum { CALLER = 0 };
