@@ -1,5 +1,5 @@
 -- What refusals 1, 13, 2 and 3 have tested, and what a call is where they let it through or refuse it.
---     let_through, asked_at_lem, asked_between, asked_by    what `asked`, `asked_at`, `asked_link` and `asked_caller` have tested where they let a call through
+--     let_through, asked_at_place, asked_between, asked_by    what `asked`, `asked_at`, `asked_link` and `asked_caller` have tested where they let a call through
 --     admitted                               the same of kind, mark and tables, as what comes after requires it
 --     rule_at                                what `asked_rule` has tested after `asked_at`
 --     at_passes, rule_passes, link_passes, by_passes            the refusals of a call that was let through
@@ -51,8 +51,8 @@ pub record AskedAt (n m c i : ℕ) (k : Kind) (j : Mark) : Type 0 where
   pub mark_in_range : i < m
 
 module _ (n m c i : ℕ) where
-  pub asked_at_lem : {k : Kind} {j : Mark} → asked_at (kind_below n c) (mark_below m i) ≡ Asked.At k j → AskedAt n m c i k j
-  asked_at_lem {k} {j} e = go (ltb c n) (ltb i m) refl refl e
+  pub asked_at_place : {k : Kind} {j : Mark} → asked_at (kind_below n c) (mark_below m i) ≡ Asked.At k j → AskedAt n m c i k j
+  asked_at_place {k} {j} e = go (ltb c n) (ltb i m) refl refl e
     where
       go : (p q : Bool) → ltb c n ≡ p → ltb i m ≡ q → asked_at (kind_or p c) (mark_or q i) ≡ Asked.At k j → AskedAt n m c i k j
       go false q hp hq e = let z : ◌≡◌ {A = ℕ} 0 1 = cc in absurd (omega arith)
@@ -63,7 +63,7 @@ module _ (n m c i : ℕ) where
     pub at_passes : {k : Kind} {j : Mark} → asked_at (kind_below n c) (mark_below m i) ≡ Asked.At k j
         → check 2 (ltb c n) t (check 3 (ltb i m) t next) ≡ next
     unfolding check
-    at_passes e = let p = asked_at_lem e in rw (lt-ltb c n p.kind_in_range, lt-ltb i m p.mark_in_range) refl
+    at_passes e = let p = asked_at_place e in rw (lt-ltb c n p.kind_in_range, lt-ltb i m p.mark_in_range) refl
 
     pub at_refuses : {why : Refusal} → asked_at (kind_below n c) (mark_below m i) ≡ Asked.Refused why
         → check 2 (ltb c n) t (check 3 (ltb i m) t next) ≡ leaves (refused (refusal_number why)) t
@@ -106,7 +106,7 @@ let_through false e = let z : ◌≡◌ {A = ℕ} 0 1 = cc in absurd (omega arit
 pub admitted : (n m : ℕ) (t : Tables) (c i : ℕ) {k : Kind} {j : Mark} → checked n m t c i ≡ Asked.At k j → (shaped n m t ≡ true) × Within n m t.rules t.entries k j
 admitted n m t c i e =
     let (fits, at) = let_through (shaped n m t) e in
-    let p = asked_at_lem n m c i at in (
+    let p = asked_at_place n m c i at in (
       fits,
       record {
         sizes = shape_sized n m t (sized_facts 1 1 n m _ _ _ _ _ fits);
@@ -154,7 +154,7 @@ module _ (n c p : ℕ) where
 pub record AskedBy (n m : ℕ) (t : Tables) (c : ℕ) (by : Caller) : Type 0 where
   pub fits : shaped n m t ≡ true
   pub the_caller : by ≡ caller c
-  pub caller_below_lem : c < callers
+  pub caller_in_range : c < callers
 
 module _ (n m : ℕ) (t : Tables) (c : ℕ) where
   pub asked_by : {by : Caller} → checked_caller n m t c ≡ CallerAsked.By by → AskedBy n m t c by
@@ -163,7 +163,7 @@ module _ (n m : ℕ) (t : Tables) (c : ℕ) where
       go : (s a : Bool) → shaped n m t ≡ s → ltb c callers ≡ a → asked_caller s (caller_or a c) ≡ CallerAsked.By by → AskedBy n m t c by
       go false a hs ha e = let z : ◌≡◌ {A = ℕ} 0 1 = cc in absurd (omega arith)
       go true false hs ha e = let z : ◌≡◌ {A = ℕ} 0 1 = cc in absurd (omega arith)
-      go true true hs ha e = record { fits = hs; the_caller = cc; caller_below_lem = ltb-true c callers ha }
+      go true true hs ha e = record { fits = hs; the_caller = cc; caller_in_range = ltb-true c callers ha }
 
   module _ {A : Type 0} (next : Outcome A) where
     pub by_passes : shaped n m t ≡ true → c < callers → by_caller n m t c next ≡ next
@@ -200,7 +200,7 @@ module _ (n m : ℕ) (t : Tables) (c i : ℕ) where
 
   -- the kind and the mark are the numbers asked for
   pub place_is : {k : Kind} {j : Mark} → checked n m t c i ≡ Asked.At k j → (k ≡ kind c) × (j ≡ mark i)
-  place_is e = let p = asked_at_lem n m c i (let_through (shaped n m t) e).1 in (p.the_kind, p.the_mark)
+  place_is e = let p = asked_at_place n m c i (let_through (shaped n m t) e).1 in (p.the_kind, p.the_mark)
 
 -- ---- find
 

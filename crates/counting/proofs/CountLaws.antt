@@ -22,7 +22,7 @@ use Rattle.inheritance.specs.Above.{one_if, count}
 use Rattle.inheritance.proofs.AboveLaws.{count_same, count_some, count_changed}
 use Rattle.tables.specs.Tables.{is_dispute, disputes_at, disputes_of}
 use Rattle.tables.proofs.BookLaws.{zeros_at}
-use Rattle.tables.proofs.DisputeLaws.{at_most, length_disputes, disputes_at_lem, disputes_ext}
+use Rattle.tables.proofs.DisputeLaws.{at_most, length_disputes, disputes_at_mark, disputes_ext}
 use Rattle.tables.proofs.TableLaws.{place_split}
 use Rattle.counting.specs.Counting.{counted_in, counted_anew, Counting, Counted}
 
@@ -41,7 +41,7 @@ module _ (c m : ℕ) (entries : List ℕ) where
   counting_none counts is = record {
     size = ap length is ∙ length_disputes c m entries;
     done = λ i h. absurd (omega arith);
-    left = λ i _ h. ap (λ (l : List ℕ). get_or l i 0) is ∙ disputes_at_lem c m entries i h;
+    left = λ i _ h. ap (λ (l : List ℕ). get_or l i 0) is ∙ disputes_at_mark c m entries i h;
   }
 
   module _ (j : ℕ) (counts : List ℕ) (s : Counting c j m entries counts) where
@@ -84,12 +84,12 @@ counted_length {m} {entries} s = ap length s.counts_right ∙ length_disputes s.
 
 -- ---- one entry changes
 
-module _ (m c j : ℕ) (entries counts : List ℕ) (s : Counted m entries counts) (mark-in : j < m) (IsPlace-in : c * m + j < length entries) where
+module _ (m c j : ℕ) (entries counts : List ℕ) (s : Counted m entries counts) (mark-in : j < m) (place-in : c * m + j < length entries) where
   kind_in : c < s.kinds
-  kind_in = rw (digits_div c {m = m} {r = j} mark-in) at ((div-lt_iff_lt-mul {k = m} {x = c * m + j} {y = s.kinds} (omega arith)).1 (rw s.size at IsPlace-in))
+  kind_in = rw (digits_div c {m = m} {r = j} mark-in) at ((div-lt_iff_lt-mul {k = m} {x = c * m + j} {y = s.kinds} (omega arith)).1 (rw s.size at place-in))
 
   here : get_or counts j 0 ≡ disputes_at s.kinds m entries j
-  here = ap (λ (l : List ℕ). get_or l j 0) s.counts_right ∙ disputes_at_lem s.kinds m entries j mark-in
+  here = ap (λ (l : List ℕ). get_or l j 0) s.counts_right ∙ disputes_at_mark s.kinds m entries j mark-in
 
   pub counted_room : (j < length counts) × (one_if (is_dispute (get_or entries (c * m + j) 0)) ≤ get_or counts j 0) × (get_or counts j 0 ≤ 128)
   unfolding disputes_at
@@ -117,7 +117,7 @@ module _ (m c j : ℕ) (entries counts : List ℕ) (s : Counted m entries counts
     moved =
         count_changed (λ k. is_dispute (get_or entries (k * m + j) 0)) (λ k. is_dispute (get_or entries' (k * m + j) 0)) s.kinds c kind_in
         (λ k _ ne. ap is_dispute (sym (other k j mark-in (inl ne))))
-        ∙ ap (λ (x : ℕ). disputes_at s.kinds m entries j + one_if (is_dispute x)) (get_or-set_same entries (c * m + j) v 0 IsPlace-in)
+        ∙ ap (λ (x : ℕ). disputes_at s.kinds m entries j + one_if (is_dispute x)) (get_or-set_same entries (c * m + j) v 0 place-in)
 
     kept : (i : ℕ) → i < m → i ≢ j → disputes_at s.kinds m entries' i ≡ disputes_at s.kinds m entries i
     unfolding disputes_at
@@ -136,4 +136,4 @@ module _ (m c j : ℕ) (entries counts : List ℕ) (s : Counted m entries counts
             (λ (same : i ≡ j). subst (λ (x : ℕ). get_or (set counts j (counted_anew (get_or counts j 0) was v)) x 0 ≡ disputes_at s.kinds m entries' x) (sym same)
             (get_or-set_same counts j _ 0 counted_room.0 ∙ omega (arith, here, moved, counted_room.1)))
             (λ ne.
-            get_or-set_other counts j i _ 0 ne ∙ ap (λ (l : List ℕ). get_or l i 0) s.counts_right ∙ disputes_at_lem s.kinds m entries i h ∙ sym (kept i h ne))
+            get_or-set_other counts j i _ 0 ne ∙ ap (λ (l : List ℕ). get_or l i 0) s.counts_right ∙ disputes_at_mark s.kinds m entries i h ∙ sym (kept i h ne))

@@ -1,5 +1,5 @@
 -- What parties answers, by where its checks end.
---     parties_refused, parties_at_lem           refusals 1, 2 and 3 by the cases of `checked`, as code goes
+--     parties_refused, parties_at_place           refusals 1, 2 and 3 by the cases of `checked`, as code goes
 --     unsound, no_dispute, disputed         refusals 5 and 11, and where neither is given
 -- Assumes nothing.
 use mathlib.Core.Path.{◌≡◌, refl, sym, ◌∙◌, ap}
@@ -23,10 +23,10 @@ module _ (n m : ℕ) (t : Tables) (c i : ℕ) where
   unfolding parties
   parties_refused e = sym (ap (λ (o : Outcome TwoKinds). o.reply) (place_refuses n m t c i _ e))
 
-  pub parties_at_lem : {reply : Reply TwoKinds} {k : Kind} {j : Mark} → checked n m t c i ≡ Asked.At k j
+  pub parties_at_place : {reply : Reply TwoKinds} {k : Kind} {j : Mark} → checked n m t c i ≡ Asked.At k j
       → reply ≡ (parties_at n m t k.0 j.0).reply → reply ≡ (parties n m t c i).reply
   unfolding parties parties_at
-  parties_at_lem {reply} e is =
+  parties_at_place {reply} e is =
       let (k-is, j-is) = place_is n m t c i e in
       rw (k-is, j-is) at is ∙ sym (ap (λ (o : Outcome TwoKinds). o.reply) (place_passes n m t c i _ e))
 

@@ -30,7 +30,7 @@ use Rattle.tables.specs.Tables.{Tables, shaped, up_of, entries_of, disputes_of, 
 use Rattle.tables.specs.Tables.{well_linked, links_right}
 use Rattle.tables.specs.Calls.{check, lowest, first_fault, fault_of, inspect}
 use Rattle.tables.proofs.CallLaws.{Lowest, lowest_fails}
-use Rattle.tables.proofs.DisputeLaws.{disputes_at_lem}
+use Rattle.tables.proofs.DisputeLaws.{disputes_at_mark}
 use Rattle.tables.proofs.ShapeLaws.{sized_facts}
 use Rattle.tables.proofs.SoundLaws.{entries_true}
 use Rattle.tables.proofs.TableLaws.{below_suc, below_true, below_same}
@@ -184,7 +184,7 @@ module _ (n m : ℕ) (t : Tables) where
       agree : all_below entries_right (n * m) ≡ true → (j : ℕ) → j < m → same_at t.disputes counts j ≡ count_right n m t.entries t.disputes j
       agree right j h =
           let same : lookups ≡ t.entries = looked ∙ sym (entries_true n m (up_of n t.links) t.rules t.entries size right) in
-          ap (eqb (get_or t.disputes j 0)) (ap (λ (l : List ℕ). get_or l j 0) (counted ∙ ap (disputes_of n m) same) ∙ disputes_at_lem n m t.entries j h)
+          ap (eqb (get_or t.disputes j 0)) (ap (λ (l : List ℕ). get_or l j 0) (counted ∙ ap (disputes_of n m) same) ∙ disputes_at_mark n m t.entries j h)
 
       go : (a b c d d' : Bool) (byte kind entry mark mark' : ℕ) → (a && b) ≡ true → (c ≡ true → (d ≡ d') × (mark ≡ mark'))
           → first_fault true true c d 0 0 entry mark ≡ first_fault a b c d' byte kind entry mark'

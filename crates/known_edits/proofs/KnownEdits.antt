@@ -15,7 +15,7 @@ use Rattle.inheritance.specs.Checked.{kind_below, mark_below}
 use Rattle.asking.specs.declared.Asked.{Asked}
 use Rattle.asking.specs.declared.LinkAsked.{LinkAsked}
 use Rattle.asking.specs.Ask.{asked_at, asked_rule, asked_link}
-use Rattle.asking.proofs.AskLaws.{asked_at_lem, rule_at, asked_between}
+use Rattle.asking.proofs.AskLaws.{asked_at_place, rule_at, asked_between}
 use Rattle.link_edits.proofs.LinkEditLaws.{link_refused, link_passed, added_link, taken_link}
 use Rattle.link_edits.specs.LinkEdit.{link_call}
 use Rattle.relinking.specs.Relinked.{link_edit}
@@ -79,7 +79,7 @@ module _ (n m : ℕ) (t : Tables) (by : ℕ) (fits : shaped n m t ≡ true) (low
       → rule_asked (asked_rule (asked_at (kind_below n kind) (mark_below m mark)) (adding && eqb handling 0)) handling ≡ ChangeAsked.Rule k j h → SetsRule c k j h
   sets_rule c kind mark handling adding whole e =
       let (a, same) = rule_yes _ handling e in
-      let p = asked_at_lem n m kind mark (rule_at _ _ a).0 in
+      let p = asked_at_place n m kind mark (rule_at _ _ a).0 in
       (rw (← same) (rule_passed n m t by kind mark handling adding fits low a ∙ whole), rw p.the_kind p.kind_in_range, rw p.the_mark p.mark_in_range)
 
   pub change_rule : (c : CodeChange) {k : Kind} {j : Mark} {h : ℕ} → asked_change n m c ≡ ChangeAsked.Rule k j h → SetsRule (change_of c) k j h

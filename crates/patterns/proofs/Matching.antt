@@ -76,9 +76,9 @@ module _ {p line : List ℕ} {from i at next : ℕ} {values : List ℕ} (m : Mat
       pub number_missing : number_at (drop at line) ≡ missing → fits p (drop from line) ≡ none
       number_missing e = left _ (at_number ∙ ap (λ n. number_then n (fits (drop (i + 1) p))) e)
 
-    module _ (is_byte_lem : get_or p i 0 ≡ 35 → ⊥) where
+    module _ (is-byte : get_or p i 0 ≡ 35 → ⊥) where
       at_byte : fits (drop i p) (drop at line) ≡ byte_then (get_or p i 0) (drop at line) (fits (drop (i + 1) p))
-      at_byte = rw (drop_next p i inside) (fits_byte _ _ _ (ne_eqb _ _ is_byte_lem))
+      at_byte = rw (drop_next p i inside) (fits_byte _ _ _ (ne_eqb _ _ is-byte))
 
       pub line_short : length line ≤ at → fits p (drop from line) ≡ none
       line_short short = left _ (at_byte ∙ ap (λ l. byte_then (get_or p i 0) l (fits (drop (i + 1) p))) (drop_of_length-le line short))
@@ -89,7 +89,7 @@ module _ {p line : List ℕ} {from i at next : ℕ} {values : List ℕ} (m : Mat
             record {
               so_far = sym (left (fits (drop (i + 1) p) (drop (at + 1) line)) (at_byte ∙ (rw (drop_next line at more, eq-eqb _ _ same, byte_then))));
               unused = m.unused;
-              room = omega (arith, slots_kept p i inside is_byte_lem);
+              room = omega (arith, slots_kept p i inside is-byte);
               three = m.three;
             }
 

@@ -52,9 +52,9 @@ started {p} vs room fits = record { so_far = refl; long = omega arith; room = om
 
 module _ {p vs before : List ℕ} {i at next : ℕ} {out : List ℕ} (m : Printing p vs before i at next out) where
   module _ (inside : i < length p) where
-    module _ (is_byte_lem : get_or p i 0 ≡ 35 → ⊥) where
+    module _ (is-byte : get_or p i 0 ≡ 35 → ⊥) where
       at_byte : filled (drop i p) (drop next vs) ≡ get_or p i 0 ∷ filled (drop (i + 1) p) (drop next vs)
-      at_byte = rw (drop_next p i inside) (filled_byte _ _ _ (ne_eqb _ _ is_byte_lem))
+      at_byte = rw (drop_next p i inside) (filled_byte _ _ _ (ne_eqb _ _ is-byte))
 
       pub byte_room : at < length out
       byte_room = let long = m.long in omega (arith, ap length at_byte, m.fits, m.kept)
@@ -65,7 +65,7 @@ module _ {p vs before : List ℕ} {i at next : ℕ} {out : List ℕ} (m : Printi
             so_far = ap (λ k. sets (set out at (get_or p i 0)) k (filled (drop (i + 1) p) (drop next vs))) (add-one at)
                 ∙ sym (ap (λ l. sets out at l) at_byte) ∙ m.so_far;
             long = omega (arith, m.long, ap length at_byte);
-            room = omega (arith, m.room, slots_kept p i inside is_byte_lem);
+            room = omega (arith, m.room, slots_kept p i inside is-byte);
             kept = length-set out at (get_or p i 0) ∙ m.kept;
             fits = m.fits;
           }

@@ -43,7 +43,7 @@ pub fn replace(
     new_disputes: &[u16],
     caller: Caller,
 ) -> Edited
-    requires disputes_value { (shaped n m (lent links.old rules.old entries.old tally.old disputes.old) ≡ true) × (caller.0 < callers) }
+    requires book_shaped { (shaped n m (lent links.old rules.old entries.old tally.old disputes.old) ≡ true) × (caller.0 < callers) }
     requires sized { (Sized n m new_rules.now new_entries.now) × (length new_links.now ≡ n * n) × (length new_disputes.now ≡ m) }
     ensures { leaves (edited result) (lent links.new rules.new entries.new tally.new disputes.new)
         ≡ replaced n m (lent links.old rules.old entries.old tally.old disputes.old)

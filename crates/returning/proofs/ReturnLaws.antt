@@ -55,7 +55,7 @@ module _ (n m : ℕ) (t : Tables) (s : Store) (c number : ℕ) where
 
     module _ {by : Caller} (a : AskedBy n m t c by) where
       asked : return_to n m t s c number ≡ rest
-      asked = begins ∙ by_passes n m t c rest a.fits a.caller_below_lem
+      asked = begins ∙ by_passes n m t c rest a.fits a.caller_in_range
 
       pub state_refused : {why : Refusal} → asked_state s.flags (name_below number) ≡ StateAsked.Refused why
           → leaves (refused (refusal_number why)) t ≡ return_to n m t s c number

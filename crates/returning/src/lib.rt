@@ -33,7 +33,7 @@ fn bring_back(
     caller: Caller,
     name: Name,
 ) -> Edited
-    requires disputes_value { (shaped n m (lent links.old rules.old entries.old tally.old disputes.old) ≡ true) × (caller.0 < callers) }
+    requires book_shaped { (shaped n m (lent links.old rules.old entries.old tally.old disputes.old) ≡ true) × (caller.0 < callers) }
     requires copies_long { (CopiesLong n m saved_links.now saved_rules.now saved_entries.now saved_disputes.now) × (name.0 < names) }
     ensures { (flags : List ℕ) → leaves (edited result) (lent links.new rules.new entries.new tally.new disputes.new)
         ≡ replaced n m (lent links.old rules.old entries.old tally.old disputes.old)

@@ -14,7 +14,7 @@ use Rattle.inheritance.specs.Checked.{kind_below, mark_below}
 use Rattle.asking.specs.declared.Asked.{Asked}
 use Rattle.asking.specs.declared.CallerAsked.{CallerAsked}
 use Rattle.asking.specs.Ask.{asked_at, asked_rule, checked_caller}
-use Rattle.asking.proofs.AskLaws.{asked_at_lem, rule_at, rule_passes, rule_refuses, by_passes, caller_refuses}
+use Rattle.asking.proofs.AskLaws.{asked_at_place, rule_at, rule_passes, rule_refuses, by_passes, caller_refuses}
 use Rattle.tables.specs.declared.Refusal.{Refusal}
 use Rattle.tables.specs.Caller.{callers}
 use Rattle.tables.specs.Calls.{Outcome, leaves, check, by_caller, add_rule, take_rule}
@@ -42,7 +42,7 @@ module _ (n m : ℕ) (t : Tables) (by c i : ℕ) where
           → rule_edit n m t by k.0 j.0 handling ≡ rule_call n m t by c i handling adding
       unfolding rule_call
       rule_passed e =
-          let p = asked_at_lem n m c i (rule_at _ _ e).0 in
+          let p = asked_at_place n m c i (rule_at _ _ e).0 in
           rw (p.the_kind, p.the_mark) (sym (by_passes n m t by _ fits low ∙ rule_passes n m c i _ t _ e))
 
   pub added_rule : (handling : ℕ) → rule_call n m t by c i handling true ≡ add_rule n m t by c i handling

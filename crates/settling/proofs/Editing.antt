@@ -77,5 +77,5 @@ module _ (n m : ℕ) (up : ℕ → ℕ → Bool) (rules entries : List ℕ) (siz
     link_awaiting visited reached =
         awaiting n m up up' rules rules entries visited (omega arith)
         (λ c j hc a b fresh. sym (link_keeps n up' up (own_of m rules j) acyclic' acyclic e q same_but c hc
-        (λ up_to_lem. fresh (reached c hc ((below_upto n up' (λ _. false) e c).1 up_to_lem)))))
+        (λ up-to. fresh (reached c hc ((below_upto n up' (λ _. false) e c).1 up-to)))))
         looked_before

@@ -24,7 +24,7 @@ use Rattle.tables.specs.Step.{right}
 use Rattle.deciding.proofs.DecidingLaws.{arranged_acyclic}
 use Rattle.soundness.specs.Examined.{LinksExamined}
 use Rattle.tables.specs.Tables.{lent, up_of, entries_of, all_below, byte_right, bytes_right, well_linked, links_right, count_right, disputes_of, sound_over, sound}
-use Rattle.tables.proofs.DisputeLaws.{disputes_at_lem}
+use Rattle.tables.proofs.DisputeLaws.{disputes_at_mark}
 use Rattle.tables.proofs.SoundLaws.{free_means, means_free, free_agree, entries_of_agree, right_up, sound_by_steps}
 use Rattle.tables.proofs.TableLaws.{below_true, below_same}
 
@@ -68,7 +68,7 @@ pub counts_tests : (n m : ℕ) (entries disputes : List ℕ) {counts : List ℕ}
     → all_below (λ j. eqb (get_or disputes j 0) (get_or counts j 0)) (length disputes) ≡ all_below (count_right n m entries disputes) m
 counts_tests n m entries disputes {counts = counts} size are =
     ap (all_below (λ j. eqb (get_or disputes j 0) (get_or counts j 0))) size
-    ∙ below_same _ _ m (λ j h. ap (eqb (get_or disputes j 0)) (ap (λ (l : List ℕ). get_or l j 0) are ∙ disputes_at_lem n m entries j h))
+    ∙ below_same _ _ m (λ j h. ap (eqb (get_or disputes j 0)) (ap (λ (l : List ℕ). get_or l j 0) are ∙ disputes_at_mark n m entries j h))
 
 module _ (n : ℕ) (links rows : List ℕ) (kinds : n ≤ 128) (loaded : Loaded n links rows) where
   pub rows_links : (c p : ℕ) → c < n → p < n → bit rows c p ≡ up_of n links c p

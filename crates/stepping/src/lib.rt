@@ -54,7 +54,7 @@ pub fn inherit_entry(
     j: usize,
 ) -> u16
     requires sized { (Sized n m rules.now entries.now) × (Prepared n m rows.now rules.now order.now reach.now ruled.now) }
-    requires c_lt_n { (c < n) × (j < m) }
+    requires in_book { (c < n) × (j < m) }
     ensures { result ≡ stepped n m (bit rows.now) rules.now entries.now c j }
 {
     let kind = c as u16;

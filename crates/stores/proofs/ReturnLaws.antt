@@ -17,7 +17,7 @@ use Rattle.stores.specs.Store.{Store, state_at}
 use Rattle.stores.specs.StoreSteps.{with_tally, SameButTally, SameBooks}
 use Rattle.stores.specs.StoredBooks.{StoredBook, StoredCall, after_call, saved_last}
 use Rattle.stores.specs.StoredBooks.StoredCall.{on_tables, save, return_to}
-use Rattle.stores.proofs.SavedLaws.{run_lengths, shaped_same, stored_same, tally_same, saved_last_lem, tally_long}
+use Rattle.stores.proofs.SavedLaws.{run_lengths, shaped_same, stored_same, tally_same, state_is_last_saved, tally_long}
 use Rattle.stores.proofs.StoreLaws.{Returned, given_returned}
 use Rattle.stores.proofs.TallyFree.{request_alike, save_alike, return_alike}
 
@@ -61,7 +61,7 @@ module _ (b : StoredBook) (before : List StoredCall) (n m caller name count : �
       let same = run_lengths before b in
       let fits = sym (shaped_same b found same n m) ∙ p.fits in
       let held = sym (stored_same b found same n m) ∙ p.held in
-      let left = r.left ∙ saved_last_lem n m name before b first fits held p.low (λ _. refl) (tallied caller found.tables.tally) in
+      let left = r.left ∙ state_is_last_saved n m name before b first fits held p.low (λ _. refl) (tallied caller found.tables.tally) in
       let long = ap (λ (t : Tables). length t.tally) left ∙ length_tallied caller found.tables.tally ∙ tally_same b found same in
       record {
         tables_same = record {

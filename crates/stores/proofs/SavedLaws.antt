@@ -2,7 +2,7 @@
 --     call_keeps, save_keeps, return_keeps    the ten calls and a return leave the store, a save leaves the book
 --     lengths_kept                 no call changes the length of a table, whatever it is lent and answers; run_lengths: nor does a list of calls
 --     shaped_same, stored_same     so a book and its store have their lengths for some n and m after it exactly if they had them before
---     saved_last_lem                   after a list the state with a name is the one that the last accepted save under it found
+--     state_is_last_saved                   after a list the state with a name is the one that the last accepted save under it found
 --     tally_long                   .. and the tables that it found have a tally of the book's length
 -- Assumes nothing.
 use mathlib.Core.Path.{◌≡◌, refl, sym, ap, ◌∙◌, subst}
@@ -192,14 +192,14 @@ module _ (n m : ℕ) (b : StoredBook) (fits : shaped n m b.tables ≡ true) (hel
   call_last (save n' m' other) u before = save_last n' m' other u before
   call_last (return_to n' m' caller other) u before = before
 
-pub saved_last_lem : (n m : ℕ) (name : ℕ) (cs : List StoredCall) (b : StoredBook) (u : Tables) → shaped n m b.tables ≡ true → stored n m b.store ≡ true
+pub state_is_last_saved : (n m : ℕ) (name : ℕ) (cs : List StoredCall) (b : StoredBook) (u : Tables) → shaped n m b.tables ≡ true → stored n m b.store ≡ true
     → name < names → StateIs n m b.store name u → StateIs n m (run after_call cs b).store name (saved_last name u cs b)
 unfolding run saved_last
-saved_last_lem n m name [] b u fits held low before = before
-saved_last_lem n m name (c ∷ cs) b u fits held low before =
+state_is_last_saved n m name [] b u fits held low before = before
+state_is_last_saved n m name (c ∷ cs) b u fits held low before =
     let after = after_call c b in
     let same = lengths_kept c b in
-    saved_last_lem n m name cs after (saved_by name c b u) (shaped_same b after same n m ∙ fits) (stored_same b after same n m ∙ held) low
+    state_is_last_saved n m name cs after (saved_by name c b u) (shaped_same b after same n m ∙ fits) (stored_same b after same n m ∙ held) low
     (call_last n m b fits held name low c u before)
 
 -- ---- .. has a tally of the book's length

@@ -19,7 +19,7 @@ use Rattle.tables.specs.Lists.{run}
 use Rattle.tables.specs.Books.{Agree}
 use Rattle.tables.proofs.BookLaws.{Consistent, consistent_shaped, consistent_sound, consistent_agree, tested_consistent, same_size}
 use Rattle.tables.proofs.BookLaws.{call_consistent, opened_consistent}
-use Rattle.tables.proofs.DisputeLaws.{disputes_at_lem}
+use Rattle.tables.proofs.DisputeLaws.{disputes_at_mark}
 use Rattle.tables.proofs.ListLaws.{run_keeps}
 use Rattle.tables.proofs.ShapeLaws.{facts_sized}
 use Rattle.tables.proofs.TableLaws.{length_tallied}
@@ -68,7 +68,7 @@ module _ (n m : ℕ) (t : Tables) (opened : (open_book n m t).reply ≡ given tt
   -- in numbers: an entry from 257 on is that of a dispute
   pub stays_counted : (j : ℕ) → j < m → get_or left.disputes j 0 ≡ count (λ k. leb 257 (get_or left.entries (k * m + j) 0)) n
   unfolding disputes_at
-  stays_counted j h = ap (λ (l : List ℕ). get_or l j 0) stays.right.disputes ∙ disputes_at_lem n m left.entries j h
+  stays_counted j h = ap (λ (l : List ℕ). get_or l j 0) stays.right.disputes ∙ disputes_at_mark n m left.entries j h
 
 pub books_agree :
     (n m : ℕ) (t u : Tables) → (open_book n m t).reply ≡ given tt → (open_book n m u).reply ≡ given tt → (s s' : Store) (xs ys : List StoredCall)

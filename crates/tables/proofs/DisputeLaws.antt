@@ -1,6 +1,6 @@
 -- The dispute counts of a table of entries.
 --     one_if_few, bool_byte                          what a test counts: at most one, and the number that code makes of it
---     length_disputes, disputes_at_lem, disputes_ext     the table of the counts has them at its places, and a list that has them is that table
+--     length_disputes, disputes_at_mark, disputes_ext     the table of the counts has them at its places, and a list that has them is that table
 --     counts_mean, mean_counts                       a table that passes the test of every count is that table, and the other way round
 --     at_most                                        no more kinds have a dispute entry than there are
 --     some_entry                                     where the counts of a mark differ, so do the entries of some kind; some_place: of any place of the tables
@@ -42,13 +42,13 @@ module _ (n m : ℕ) (entries : List ℕ) where
   unfolding disputes_of
   length_disputes = length_listed _ m
 
-  pub disputes_at_lem : (j : ℕ) → j < m → get_or (disputes_of n m entries) j 0 ≡ disputes_at n m entries j
+  pub disputes_at_mark : (j : ℕ) → j < m → get_or (disputes_of n m entries) j 0 ≡ disputes_at n m entries j
   unfolding disputes_of
-  disputes_at_lem j h = listed_at _ m j h
+  disputes_at_mark j h = listed_at _ m j h
 
   pub disputes_ext : (counts : List ℕ) → length counts ≡ m → ((j : ℕ) → j < m → get_or counts j 0 ≡ disputes_at n m entries j) → counts ≡ disputes_of n m entries
   disputes_ext counts size at = ext_get_or 0 counts (disputes_of n m entries) (size ∙ sym length_disputes) λ j h.
-      at j (rw size at h) ∙ sym (disputes_at_lem j (rw size at h))
+      at j (rw size at h) ∙ sym (disputes_at_mark j (rw size at h))
 
   -- past the last mark the table has no number
   disputes_past : (j : ℕ) → m ≤ j → get_or (disputes_of n m entries) j 0 ≡ 0
@@ -58,7 +58,7 @@ module _ (n m : ℕ) (entries : List ℕ) where
   counts_mean counts size e = disputes_ext counts size (λ j h. eqb-true _ _ (below_true _ m e j h))
 
   pub mean_counts : (counts : List ℕ) → counts ≡ disputes_of n m entries → all_below (count_right n m entries counts) m ≡ true
-  mean_counts counts e = true_below _ m (λ j h. eq-eqb _ _ (ap (λ (l : List ℕ). get_or l j 0) e ∙ disputes_at_lem j h))
+  mean_counts counts e = true_below _ m (λ j h. eq-eqb _ _ (ap (λ (l : List ℕ). get_or l j 0) e ∙ disputes_at_mark j h))
 
 pub some_entry : (n m : ℕ) (old new : List ℕ) (j : ℕ) → disputes_at n m old j ≢ disputes_at n m new j
     → (k : ℕ) × (k < n) × (get_or old (k * m + j) 0 ≢ get_or new (k * m + j) 0)
@@ -72,5 +72,5 @@ some_entry (suc n) m old new j differ = by_cases (ℕ_discrete (get_or old (n * 
 pub some_place : (n m : ℕ) (old new : List ℕ) (j : ℕ) → get_or (disputes_of n m old) j 0 ≢ get_or (disputes_of n m new) j 0
     → (k : ℕ) × (k < n) × (get_or old (k * m + j) 0 ≢ get_or new (k * m + j) 0)
 some_place n m old new j differ = by_cases (dec_lt j m)
-    (λ h. some_entry n m old new j (λ same. differ (disputes_at_lem n m old j h ∙ same ∙ sym (disputes_at_lem n m new j h))))
+    (λ h. some_entry n m old new j (λ same. differ (disputes_at_mark n m old j h ∙ same ∙ sym (disputes_at_mark n m new j h))))
     (λ past. absurd (differ (disputes_past n m old j (omega arith) ∙ sym (disputes_past n m new j (omega arith)))))

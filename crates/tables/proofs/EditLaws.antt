@@ -159,17 +159,17 @@ module _ (n m : ℕ) (t : Tables) (size : length t.entries ≡ n * m) (before : 
 
   -- ---- an edit of a link
 
-  module _ (child parent byte : ℕ) (child-in : child < n) (parent_in_lem : parent < n) (links_size : length t.links ≡ n * n) (small : byte ≤ 1) where
+  module _ (child parent byte : ℕ) (child-in : child < n) (parent-in : parent < n) (links_size : length t.links ≡ n * n) (small : byte ≤ 1) where
     abbrev linked : List ℕ
     linked = set t.links (child * n + parent) byte
 
     up_set : up_of n linked child parent ≡ eqb byte 1
-    up_set = ap (λ (x : ℕ). eqb x 1) (get_or-set_same t.links (child * n + parent) byte 0 (rw links_size (digits_lt child-in parent_in_lem)))
+    up_set = ap (λ (x : ℕ). eqb x 1) (get_or-set_same t.links (child * n + parent) byte 0 (rw links_size (digits_lt child-in parent-in)))
 
     up_kept : (c p : ℕ) → p < n → (c ≢ child) ⊎ (p ≢ parent) → up_of n t.links c p ≡ up_of n linked c p
     up_kept c p hp elsewhere =
         ap (λ (x : ℕ). eqb x 1) (sym (get_or-set_other t.links (child * n + parent) (c * n + p) byte 0
-        (λ same. let (same-child, same-parent) = place_split {k = c} {k' = child} hp parent_in_lem same in
+        (λ same. let (same-child, same-parent) = place_split {k = c} {k' = child} hp parent-in same in
         ⊎_elim (λ ne. ne same-child) (λ ne. ne same-parent) elsewhere)))
 
     same_but : SameBut n (up_of n t.links) (up_of n linked) child parent
@@ -179,7 +179,7 @@ module _ (n m : ℕ) (t : Tables) (size : length t.entries ≡ n * m) (before : 
     bytes_after : (i : ℕ) → i < n * n → get_or linked i 0 ≤ 1
     bytes_after i h = by_cases (ℕ_discrete i (child * n + parent))
         (λ same. subst (λ (x : ℕ). get_or linked x 0 ≤ 1) (sym same)
-        (rw (get_or-set_same t.links (child * n + parent) byte 0 (rw links_size (digits_lt child-in parent_in_lem))) small))
+        (rw (get_or-set_same t.links (child * n + parent) byte 0 (rw links_size (digits_lt child-in parent-in))) small))
         (λ ne. rw (get_or-set_other t.links (child * n + parent) i byte 0 ne) (before.bytes i h))
 
     -- `apart`: before the edit the parent is not the child, nor below it
@@ -189,7 +189,7 @@ module _ (n m : ℕ) (t : Tables) (size : length t.entries ≡ n * m) (before : 
       unfolding accepted entry_at
       link_edits caller counts returned is = record {
         rules_kept = refl;
-        link_changed = set_one t.links (child * n + parent) byte (rw links_size (digits_lt child-in parent_in_lem));
+        link_changed = set_one t.links (child * n + parent) byte (rw links_size (digits_lt child-in parent-in));
         below_same = below_same;
         own_rule_same = λ k j. refl;
         parent_entry_same = parent_kept;
@@ -210,19 +210,19 @@ module _ (n m : ℕ) (t : Tables) (size : length t.entries ≡ n * m) (before : 
 
           parent_kept : (j : ℕ) → j < m → get_or t.entries (parent * m + j) 0 ≡ get_or (accepted n m t caller linked t.rules).tables.entries (parent * m + j) 0
           parent_kept j hj =
-              entry_before caller linked t.rules returned is parent j parent_in_lem hj
-              ∙ ap entry_of (link_keeps_parent n up up' (own j) before.acyclic acyclic child parent same_but child-in parent_in_lem apart)
-              ∙ sym (entry_after caller linked t.rules returned is parent j parent_in_lem hj)
+              entry_before caller linked t.rules returned is parent j parent-in hj
+              ∙ ap entry_of (link_keeps_parent n up up' (own j) before.acyclic acyclic child parent same_but child-in parent-in apart)
+              ∙ sym (entry_after caller linked t.rules returned is parent j parent-in hj)
 
           touched : (k j : ℕ) → k < n → j < m → get_or t.entries (k * m + j) 0 ≢ get_or (accepted n m t caller linked t.rules).tables.entries (k * m + j) 0
               → LinkTouches n m child parent t k j
           touched k j hk hj differ =
-              let (below, bare, some) = link_touched n up up' (own j) before.acyclic acyclic child parent same_but child-in parent_in_lem apart k hk
+              let (below, bare, some) = link_touched n up up' (own j) before.acyclic acyclic child parent same_but child-in parent-in apart k hk
               (lookups_differ caller linked t.rules returned is k j hk hj differ) in
               record {
                 below = below;
                 no_own_rule = bare;
-                parent_entry = λ zero. some (none_of_0 _ (omega (arith, entry_before caller linked t.rules returned is parent j parent_in_lem hj, zero)));
+                parent_entry = λ zero. some (none_of_0 _ (omega (arith, entry_before caller linked t.rules returned is parent j parent-in hj, zero)));
               }
 
           below_same : (k : ℕ) → k < n → Upto n up k child ↔ Upto n up' k child
@@ -274,15 +274,15 @@ or-false : (a : Bool) {b : Bool} → (a || b) ≡ false → (a ≡ false) × (b 
 or-false true e = absurd (true≢false e)
 or-false false e = (refl, e)
 
-module _ (n m : ℕ) (t : Tables) (s : Passed n m t) (child parent : ℕ) (child-in : child < n) (parent_in_lem : parent < n) where
+module _ (n m : ℕ) (t : Tables) (s : Passed n m t) (child parent : ℕ) (child-in : child < n) (parent-in : parent < n) where
   changed_but : (byte : ℕ) → byte ≤ 1 → SameBut n (up_of n t.links) (up_of n (set t.links (child * n + parent) byte)) child parent
-  changed_but byte small = same_but n m t s.sizes.entries_size s.before child parent byte child-in parent_in_lem s.lengths.links_length small
+  changed_but byte small = same_but n m t s.sizes.entries_size s.before child parent byte child-in parent-in s.lengths.links_length small
 
   changed_there : (byte : ℕ) → byte ≤ 1 → up_of n (set t.links (child * n + parent) byte) child parent ≡ eqb byte 1
-  changed_there byte small = up_set n m t s.sizes.entries_size s.before child parent byte child-in parent_in_lem s.lengths.links_length small
+  changed_there byte small = up_set n m t s.sizes.entries_size s.before child parent byte child-in parent-in s.lengths.links_length small
 
   pub changed_bytes : (byte : ℕ) → byte ≤ 1 → (i : ℕ) → i < n * n → get_or (set t.links (child * n + parent) byte) i 0 ≤ 1
-  changed_bytes byte small = bytes_after n m t s.sizes.entries_size s.before child parent byte child-in parent_in_lem s.lengths.links_length small
+  changed_bytes byte small = bytes_after n m t s.sizes.entries_size s.before child parent byte child-in parent-in s.lengths.links_length small
 
   pub added_acyclic : (eqb parent child || above n (up_of n t.links) parent child) ≡ false → Acyclic n (up_of n (set t.links (child * n + parent) 1))
   added_acyclic e =
@@ -321,15 +321,15 @@ module _ (n m : ℕ) (t : Tables) where
       check_given 1 t _ P _ λ fits. check_given 13 t _ P _ λ known. check_given 2 t _ P _ λ kinds-in. check_given 5 t _ P _ λ is_sound. check_given 7 t _ P _ λ _.
       check_given 9 t _ P _ λ no_cycle is.
       let s = passed n m t fits is_sound in
-      let (child-in, parent_in_lem) = (and-eq-true_iff (ltb child n) _).0 kinds-in in
-      go (numbered s known) (ltb-true _ _ child-in) (ltb-true _ _ parent_in_lem) s (not-true _ no_cycle) is
+      let (child-in, parent-in) = (and-eq-true_iff (ltb child n) _).0 kinds-in in
+      go (numbered s known) (ltb-true _ _ child-in) (ltb-true _ _ parent-in) s (not-true _ no_cycle) is
     where
       go : caller < length t.tally → child < n → parent < n → Passed n m t → (eqb parent child || above n (up_of n t.links) parent child) ≡ false
           → (accepted n m t caller (set t.links (child * n + parent) 1) t.rules).reply ≡ given returned
           → LinkEdited n m caller child parent 1 t (accepted n m t caller (set t.links (child * n + parent) 1) t.rules).tables returned
-      go counts child-in parent_in_lem s no_cycle is =
-          link_edits n m t s.sizes.entries_size s.before child parent 1 child-in parent_in_lem s.lengths.links_length (omega arith)
-          (added_acyclic n m t s child parent child-in parent_in_lem no_cycle) apart caller counts returned is
+      go counts child-in parent-in s no_cycle is =
+          link_edits n m t s.sizes.entries_size s.before child parent 1 child-in parent-in s.lengths.links_length (omega arith)
+          (added_acyclic n m t s child parent child-in parent-in no_cycle) apart caller counts returned is
         where
           apart : ¬ Upto n (up_of n t.links) parent child
           apart =
@@ -343,16 +343,16 @@ module _ (n m : ℕ) (t : Tables) where
       let P : Tables → Type 0 = λ t'. LinkEdited n m caller child parent 0 t t' returned in
       check_given 1 t _ P _ λ fits. check_given 13 t _ P _ λ known. check_given 2 t _ P _ λ kinds-in. check_given 5 t _ P _ λ is_sound. check_given 8 t _ P _ λ there is.
       let s = passed n m t fits is_sound in
-      let (child-in, parent_in_lem) = (and-eq-true_iff (ltb child n) _).0 kinds-in in
-      go (numbered s known) (ltb-true _ _ child-in) (ltb-true _ _ parent_in_lem) s there is
+      let (child-in, parent-in) = (and-eq-true_iff (ltb child n) _).0 kinds-in in
+      go (numbered s known) (ltb-true _ _ child-in) (ltb-true _ _ parent-in) s there is
     where
       go : caller < length t.tally → child < n → parent < n → Passed n m t → up_of n t.links child parent ≡ true
           → (accepted n m t caller (set t.links (child * n + parent) 0) t.rules).reply ≡ given returned
           → LinkEdited n m caller child parent 0 t (accepted n m t caller (set t.links (child * n + parent) 0) t.rules).tables returned
-      go counts child-in parent_in_lem s there is =
-          link_edits n m t s.sizes.entries_size s.before child parent 0 child-in parent_in_lem s.lengths.links_length (omega arith)
-          (taken_acyclic n m t s child parent child-in parent_in_lem)
-          (λ round. no_chain n (up_of n t.links) s.before.acyclic child-in (upto_step n (up_of n t.links) parent_in_lem there round)) caller counts returned is
+      go counts child-in parent-in s there is =
+          link_edits n m t s.sizes.entries_size s.before child parent 0 child-in parent-in s.lengths.links_length (omega arith)
+          (taken_acyclic n m t s child parent child-in parent-in)
+          (λ round. no_chain n (up_of n t.links) s.before.acyclic child-in (upto_step n (up_of n t.links) parent-in there round)) caller counts returned is
 
   -- with another handling number every kind has the own rules it had, and so every lookup is the same
   pub replaced_none : (caller kind mark handling returned : ℕ) → own_of m t.rules mark kind ≡ true

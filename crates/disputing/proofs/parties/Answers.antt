@@ -5,7 +5,7 @@ use native.Mathlib.Omega.{arith}
 use Rattle.tables.specs.Tables.{Tables, lent}
 use Rattle.tables.proofs.ShapeLaws.{sized_facts}
 use Rattle.asking.proofs.AskLaws.{admitted}
-use Rattle.disputing.proofs.PartyLaws.{parties_refused, parties_at_lem}
+use Rattle.disputing.proofs.PartyLaws.{parties_refused, parties_at_place}
 use Rattle.disputing.proofs.parties.Goals as goal
 
 pub answer-requires : goal.answer-requires
@@ -26,4 +26,4 @@ pub returns-in-At : goal.returns-in-At
 returns-in-At c =
     let a = c.args in
     let t : Tables = lent a.links.now a.rules.now a.entries.now a.tally.now a.disputes.now in
-    parties_at_lem _ _ t _ _ (sym c.in-At.ensures) (c.answer.ensures a.tally.now)
+    parties_at_place _ _ t _ _ (sym c.in-At.ensures) (c.answer.ensures a.tally.now)

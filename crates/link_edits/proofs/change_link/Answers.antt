@@ -16,7 +16,7 @@ returns-in-Refused-ask_link c =
     let a = c.args in
     let t : Tables = lent a.links.now a.rules.now a.entries.now a.tally.now a.disputes.now in
     let by = asked_by _ _ t _ (sym c.in-By.ensures) in
-    link_refused _ _ t _ _ _ a.adding by.fits by.caller_below_lem (sym c.in-Refused-ask_link.ensures)
+    link_refused _ _ t _ _ _ a.adding by.fits by.caller_in_range (sym c.in-Refused-ask_link.ensures)
 
 pub returns-in-Between : goal.returns-in-Between
 returns-in-Between c =
@@ -24,4 +24,4 @@ returns-in-Between c =
     let t : Tables = lent a.links.now a.rules.now a.entries.now a.tally.now a.disputes.now in
     let by = asked_by _ _ t _ (sym c.in-By.ensures) in
     c.edit_link.ensures
-    ∙ rw by.the_caller (link_passed _ _ t _ _ _ a.adding by.fits by.caller_below_lem (sym c.in-Between.ensures))
+    ∙ rw by.the_caller (link_passed _ _ t _ _ _ a.adding by.fits by.caller_in_range (sym c.in-Between.ensures))

@@ -32,8 +32,8 @@ returns-then-sound c =
     let t : Tables = lent a.links.now a.rules.now a.entries.now a.tally.now a.disputes.now in
     let by = asked_by _ _ t _ (sym c.in-By.ensures) in
     let k = known _ _ t _ _ _ _ by.fits c.examine-sound.ensures c.if-sound.true in (
-      begin_passed _ _ t _ _ c.if-records-gt-MOST_RECORDS.false by.fits by.caller_below_lem k.is_sound,
-      record { caller_in = by.caller_below_lem; known = k; small = omega arith },
+      begin_passed _ _ t _ _ c.if-records-gt-MOST_RECORDS.false by.fits by.caller_in_range k.is_sound,
+      record { caller_in = by.caller_in_range; known = k; small = omega arith },
     )
 
 pub returns-else-sound : goal.returns-else-sound
@@ -41,4 +41,4 @@ returns-else-sound c =
     let a = c.args in
     let t : Tables = lent a.links.now a.rules.now a.entries.now a.tally.now a.disputes.now in
     let by = asked_by _ _ t _ (sym c.in-By.ensures) in
-    (begin_unsound _ _ t _ _ c.if-records-gt-MOST_RECORDS.false by.fits by.caller_below_lem (sym (c.examine-sound.ensures.answer a.tally.now) ∙ c.if-sound.false), tt)
+    (begin_unsound _ _ t _ _ c.if-records-gt-MOST_RECORDS.false by.fits by.caller_in_range (sym (c.examine-sound.ensures.answer a.tally.now) ∙ c.if-sound.false), tt)

@@ -20,7 +20,7 @@ pub replace-requires-clause-sized : goal.replace-requires-clause-sized
 replace-requires-clause-sized c =
     let a = c.args in
     let p = c.requires in
-    let l = sized_facts 1 1 _ _ _ _ _ _ _ p.disputes_value.0 in
+    let l = sized_facts 1 1 _ _ _ _ _ _ _ p.book_shaped.0 in
     let links : Placed a.name.0 (a.n * a.n) a.saved_links.now = placed _ _ _ p.copies_long.1 (mul-le-mul l.kinds.1 l.kinds.1) p.copies_long.0.links_length in
     let rules : Placed a.name.0 (a.n * a.m) a.saved_rules.now = placed _ _ _ p.copies_long.1 (omega (arith, mul-le-mul l.kinds.1 l.marks.1)) p.copies_long.0.rules_length in
     let entries : Placed a.name.0 (a.n * a.m) a.saved_entries.now = placed _ _ _ p.copies_long.1 (omega (arith, mul-le-mul l.kinds.1 l.marks.1)) p.copies_long.0.entries_length in

@@ -16,7 +16,7 @@ returns-in-Refused-ask_rule c =
     let a = c.args in
     let t : Tables = lent a.links.now a.rules.now a.entries.now a.tally.now a.disputes.now in
     let by = asked_by _ _ t _ (sym c.in-By.ensures) in
-    rule_refused _ _ t _ _ _ _ a.adding by.fits by.caller_below_lem (sym c.in-Refused-ask_rule.ensures)
+    rule_refused _ _ t _ _ _ _ a.adding by.fits by.caller_in_range (sym c.in-Refused-ask_rule.ensures)
 
 pub returns-in-At : goal.returns-in-At
 returns-in-At c =
@@ -24,4 +24,4 @@ returns-in-At c =
     let t : Tables = lent a.links.now a.rules.now a.entries.now a.tally.now a.disputes.now in
     let by = asked_by _ _ t _ (sym c.in-By.ensures) in
     c.edit_rule.ensures
-    ∙ rw by.the_caller (rule_passed _ _ t _ _ _ _ a.adding by.fits by.caller_below_lem (sym c.in-At.ensures))
+    ∙ rw by.the_caller (rule_passed _ _ t _ _ _ _ a.adding by.fits by.caller_in_range (sym c.in-At.ensures))
