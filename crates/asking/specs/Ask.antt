@@ -1,11 +1,11 @@
 -- The refusals that calls begin with, by what the checked constructors give.
 --     asked_at        refusals 2 and 3, in this order, of a call on a kind and a mark
---     asked          .. after refusal 1
+--     asked           .. after refusal 1
 --     asked_rule      refusal 4 after them, of an add whose handling is 0
 --     asked_link      refusal 2 of a call on a child and a parent
 --     asked_caller    refusals 1 and 13, in this order, of an edit
 --     checked, checked_caller    the same on a book's tables
---     Within         a kind and a mark of a book whose rules and entries have their lengths
+--     Within          a kind and a mark of a book whose rules and entries have their lengths
 -- Assumes nothing.
 use Rattle.std.specs.Prelude.{Bool, true, false, List, ℕ, ◌<◌}
 use Rattle.inheritance.specs.declared.Kind.{Kind}

@@ -41,8 +41,8 @@ fn check(
     out: &mut [u16; 64],
     counts: &mut [u16],
 ) -> bool
-    requires row_in_tables { (c < 128) × (m ≤ 64) × (c * m + m ≤ length rules.now) × (c * m + m ≤ length entries.now) }
-    requires rows_and_counts { (i + m ≤ length x.now) × (k + m ≤ length y.now) × (length out.old ≡ 64) × (counts.old ≡ disputes_of c m entries.now) }
+    requires kind_and_row { (c < 128) × (m ≤ 64) × (c * m + m ≤ length rules.now) × (c * m + m ≤ length entries.now) }
+    requires parents_and_counts { (i + m ≤ length x.now) × (k + m ≤ length y.now) × (length out.old ≡ 64) × (counts.old ≡ disputes_of c m entries.now) }
     ensures { (Checked m c rules.now entries.now (λ j. merged c (get_or x.now (i + j) 0) (get_or y.now (k + j) 0)) out.new result)
         × (counts.new ≡ disputes_of (c + 1) m entries.now) }
 {
@@ -126,7 +126,7 @@ fn kind_right(
     out: &mut [u16; 64],
     counts: &mut [u16],
 ) -> bool
-    requires sized { (Sized n m rules.now entries.now) × (Prepared n m rows.now rules.now order.now reach.now ruled.now) }
+    requires sized_and_prepared { (Sized n m rules.now entries.now) × (Prepared n m rows.now rules.now order.now reach.now ruled.now) }
     requires kind_and_counts { (c < n) × (length out.old ≡ 64) × (counts.old ≡ disputes_of c m entries.now) }
     ensures { (result ≡ kind_right n m (bit rows.now) rules.now entries.now c) × (length out.new ≡ 64)
         × (counts.new ≡ disputes_of (c + 1) m entries.now) }

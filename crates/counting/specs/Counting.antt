@@ -1,7 +1,7 @@
 -- Dispute counts as code keeps them.
 --     counted_in    the count of a mark with one entry more; counted_anew: after one of its entries changed
---     Counting     the entries of kind c are counted in for the marks below j, and for the others those of the kinds before it
---     Counted      the counts are those of the entries, of at most 128 kinds
+--     Counting      the entries of kind c are counted in for the marks below j, and for the others those of the kinds before it
+--     Counted       the counts are those of the entries, of at most 128 kinds
 -- Assumes nothing.
 use Rattle.std.specs.Prelude.{◌≡◌, List, ℕ, ◌+◌, ◌-◌, ◌*◌, ◌<◌, ◌≤◌, length, get_or}
 use Rattle.inheritance.specs.Above.{one_if}

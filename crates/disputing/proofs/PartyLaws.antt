@@ -1,6 +1,6 @@
 -- What parties answers, by where its checks end.
---     parties_refused, parties_at_place           refusals 1, 2 and 3 by the cases of `checked`, as code goes
---     unsound, no_dispute, disputed         refusals 5 and 11, and where neither is given
+--     parties_refused, parties_at_place         refusals 1, 2 and 3 by the cases of `checked`, as code goes
+--     unsound, no_dispute, disputed             refusals 5 and 11, and where neither is given
 -- Assumes nothing.
 use mathlib.Core.Path.{◌≡◌, refl, sym, ◌∙◌, ap}
 use mathlib.Core.Bool.{true, false}

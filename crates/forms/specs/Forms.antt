@@ -1,7 +1,7 @@
 -- The forms that the text program reads. A line is here without its line feed.
---     Form      what a line asks for; bad: it has none of the forms, which is refusal 12
+--     Form       what a line asks for; bad: it has none of the forms, which is refusal 12
 --     form_of    what a line asks for: over 64 bytes, empty, or of any other shape, it is bad
---     formed    the form that each case of the code's enum stands for
+--     formed     the form that each case of the code's enum stands for
 -- Assumes nothing.
 use Rattle.std.specs.Prelude.{true, false, List, [], ◌∷◌, ℕ, leb, length, get_or}
 use Rattle.std.proofs.Math.Option.{Option, none, some}

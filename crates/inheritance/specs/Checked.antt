@@ -1,5 +1,5 @@
 -- Numbers as kinds and marks.
---     kind, mark              the kind and the mark with a number
+--     kind, mark                the kind and the mark with a number
 --     kind_below, mark_below    what the checked constructors give: the kind below n or the mark below m with that number, if there is one
 -- Assumes nothing.
 use Rattle.std.specs.Prelude.{cond, ℕ, ltb}

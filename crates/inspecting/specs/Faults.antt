@@ -1,7 +1,7 @@
 -- The first fault as the code finds it, the links, the entries and the dispute counts apart.
 --     link_fault     of links that have one, where the closed rows have who is above whom
 --     entry_fault    of entries whose links have none, against their lookups, or else of the dispute counts, against those of the lookups; sound where
---                   they have none either
+--                    they have none either
 -- Assumes nothing.
 use Rattle.std.specs.Prelude.{Bool, true, false, not, List, ℕ, eqb, length, get_or}
 use Rattle.relation.specs.Bit.{bit}

@@ -59,8 +59,8 @@ fn first_apart(xs: &[u16], ys: &[u16]) -> usize
 // The fault of tables whose links have none: the lowest place whose entry is not its lookup, or else the lowest mark whose dispute
 // count is not that of the lookups.
 fn entry_fault(entries: &[u16], lookups: &[u16], disputes: &[u16], counts: &[u16]) -> Inspected
-    requires lookups_size { (length lookups.now ≡ length entries.now) × (length entries.now ≤ 8192) }
-    requires counts_size { (length counts.now ≡ length disputes.now) × (length disputes.now ≤ 64) }
+    requires lookups_as_entries { (length lookups.now ≡ length entries.now) × (length entries.now ≤ 8192) }
+    requires counts_as_disputes { (length counts.now ≡ length disputes.now) × (length disputes.now ≤ 64) }
     ensures { inspected result ≡ given (entry_fault entries.now lookups.now disputes.now counts.now) }
 {
     let place = first_apart(entries, lookups);

@@ -1,6 +1,6 @@
 -- The refusals that a change begins with on sound tables, by what `Ask` gives.
 --     rule_asked, link_asked    a kind and a mark, or two kinds, with what is set there
---     asked_change             refusals 2, 3 and 4 of a change, each where its edit has it
+--     asked_change              refusals 2, 3 and 4 of a change, each where its edit has it
 -- Assumes nothing.
 use Rattle.std.specs.Prelude.{Bool, true, false, ◌&&◌, ℕ, eqb}
 use Rattle.inheritance.specs.Checked.{kind_below, mark_below}

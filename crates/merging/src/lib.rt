@@ -46,7 +46,7 @@ pub fn own(c: u16, rule: u16, e: u16) -> u16
 
 // The entries of parent p are taken as they are.
 fn take_row(m: usize, lo: usize, hi: usize, p: usize, entries: &[u16], out: &mut [u16; 64])
-    requires row_of_entries { (length out.old ≡ 64) × (p * m + m ≤ length entries.now) }
+    requires parent_row { (length out.old ≡ 64) × (p * m + m ≤ length entries.now) }
     requires mark_range { MarkRange m lo hi }
     ensures { Row lo hi (λ j. get_or entries.now (p * m + j) 0) out.new }
 {
@@ -57,7 +57,7 @@ fn take_row(m: usize, lo: usize, hi: usize, p: usize, entries: &[u16], out: &mut
 
 // The entries of parent p are folded into those of kind c.
 fn merge_row(c: u16, m: usize, lo: usize, hi: usize, p: usize, entries: &[u16], out: &mut [u16; 64])
-    requires kind_and_rows { (c < 128) × (length out.old ≡ 64) × (p * m + m ≤ length entries.now) }
+    requires kind_and_row { (c < 128) × (length out.old ≡ 64) × (p * m + m ≤ length entries.now) }
     requires mark_range { MarkRange m lo hi }
     ensures { Row lo hi (λ j. merged c (get_or out.old j 0) (get_or entries.now (p * m + j) 0)) out.new }
 {
@@ -68,7 +68,7 @@ fn merge_row(c: u16, m: usize, lo: usize, hi: usize, p: usize, entries: &[u16], 
 
 // The own rules of kind c win over the entries that its parents give it. Whether no entry then says that the parents differ.
 pub fn own_row(c: usize, m: usize, lo: usize, hi: usize, rules: &[u16], out: &mut [u16; 64]) -> bool
-    requires kind_and_rows { (c < 128) × (length out.old ≡ 64) × (c * m + m ≤ length rules.now) }
+    requires kind_and_row { (c < 128) × (length out.old ≡ 64) × (c * m + m ≤ length rules.now) }
     requires mark_range { MarkRange m lo hi }
     ensures { (Row lo hi (λ j. ruled c (get_or rules.now (c * m + j) 0) (get_or out.old j 0)) out.new)
         × (result ≡ agreed c lo hi (λ j. ruled c (get_or rules.now (c * m + j) 0) (get_or out.old j 0))) }
@@ -94,7 +94,7 @@ pub fn merge_parents(
     c: usize,
     out: &mut [u16; 64],
 )
-    requires kind_and_rows { (c < 128) × (n ≤ 128) × (length entries.now ≡ n * m) × (length out.old ≡ 64) }
+    requires kind_and_tables { (c < 128) × (n ≤ 128) × (length entries.now ≡ n * m) × (length out.old ≡ 64) }
     requires mark_range { MarkRange m lo hi }
     ensures { Row lo hi (given m (bit rows.now) entries.now c n) out.new }
 {

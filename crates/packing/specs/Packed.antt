@@ -3,7 +3,7 @@
 --     packed_edited    the count
 --     packed_pair      256 × one + the other
 --     packed_listing   accepted edits in the lowest 16 bits, the sum of their counts from bit 32 on; between them 0, or 256 + the number of the edit's refusal
---     Answers         a call's outcome as programs in C get it: one number, and the tables that it leaves, of a book or of a store
+--     Answers          a call's outcome as programs in C get it: one number, and the tables that it leaves, of a book or of a store
 --     packed_fault     sound is 0; a link byte's place, a kind, an entry's place and a mark are told apart by their upper half
 -- Assumes nothing.
 use Rattle.std.specs.Prelude.{◌≡◌, ℕ, ◌+◌, ◌*◌}

@@ -2,7 +2,7 @@
 --     Orderly       the places below n have different kinds below n
 --     hidden        the kind at place i is above the kind at an earlier common place, if i is one too
 --     LeftGathered      the places below i are gone through: row 0 has the kinds left, row 1 the places that the kinds at common places reach
---     pair_of        the first two kinds of a list, as parties answers them
+--     pair_of       the first two kinds of a list, as parties answers them
 -- Assumes nothing.
 use Rattle.std.specs.Prelude.{◌≡◌, Bool, ◌&&◌, not, List, [], ◌∷◌, ℕ, ◌<◌, ltb, length, get_or}
 use Rattle.inheritance.specs.Checked.{kind}

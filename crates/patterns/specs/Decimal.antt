@@ -1,5 +1,5 @@
 -- Plain decimal numbers of 0 to 65,535 as bytes.
---     digits      the shortest digits of a number
+--     digits       the shortest digits of a number
 --     number_at    the number at the front of a line, or that there is none
 -- Assumes nothing.
 use Rattle.std.specs.Prelude.{Bool, true, false, ◌&&◌, List, [], ◌∷◌, ◌++◌, ℕ, zero, suc, ◌+◌, ◌*◌, ◌-◌, ◌/◌, ◌%◌, eqb, leb, ltb, drop}

@@ -1,7 +1,7 @@
 -- Lists of zeros.
---     on_zero                   the number 0 has no bit
+--     on_zero                    the number 0 has no bit
 --     get_d_zeros, bit_zeros     what is in a list of zeros, and in rows of zeros: no bit
---     blank_zeros               rows of zeros are blank
+--     blank_zeros                rows of zeros are blank
 -- Assumes nothing.
 use mathlib.Core.Path.{◌≡◌, refl, ap, ◌∙◌}
 use mathlib.Core.Bool.{false}

@@ -1,7 +1,7 @@
 -- The change of a link in the parts that the code has.
 --     linked        the links with one put in or taken out
 --     judged        refusals 7 and 9 of an add, and 8 of a take, by whether the link is there and whether it would close a cycle
---     link_edit      the edit from refusal 5 on
+--     link_edit     the edit from refusal 5 on
 --     Preparable    what rules, rows and order have to be, to prepare all anew
 --     Relinked      the link is put into the rows or taken out, and all is prepared for the new links if no kind is above itself
 -- Assumes nothing.

@@ -106,8 +106,8 @@ fn apply_link(
     parent: Kind,
     adding: bool,
 ) -> u16
-    requires known { (Known n m (lent links.old rules.now entries.old tally.old disputes.old) rows.old order.old reach.old ruled.old) × (caller.0 < callers) × (child.0 < n) × (parent.0 < n) }
-    requires acyclic { Acyclic n (up_of n (linked n links.old child.0 parent.0 adding)) }
+    requires known_and_in_range { (Known n m (lent links.old rules.now entries.old tally.old disputes.old) rows.old order.old reach.old ruled.old) × (caller.0 < callers) × (child.0 < n) × (parent.0 < n) }
+    requires acyclic_after { Acyclic n (up_of n (linked n links.old child.0 parent.0 adding)) }
     ensures { (leaves (given result) (lent links.new rules.now entries.new tally.new disputes.new)
         ≡ accepted n m (lent links.old rules.now entries.old tally.old disputes.old) caller.0
         (linked n links.old child.0 parent.0 adding) rules.now)

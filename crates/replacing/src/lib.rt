@@ -43,8 +43,8 @@ pub fn replace(
     new_disputes: &[u16],
     caller: Caller,
 ) -> Edited
-    requires book_shaped { (shaped n m (lent links.old rules.old entries.old tally.old disputes.old) ≡ true) × (caller.0 < callers) }
-    requires sized { (Sized n m new_rules.now new_entries.now) × (length new_links.now ≡ n * n) × (length new_disputes.now ≡ m) }
+    requires shaped_and_caller { (shaped n m (lent links.old rules.old entries.old tally.old disputes.old) ≡ true) × (caller.0 < callers) }
+    requires new_sized { (Sized n m new_rules.now new_entries.now) × (length new_links.now ≡ n * n) × (length new_disputes.now ≡ m) }
     ensures { leaves (edited result) (lent links.new rules.new entries.new tally.new disputes.new)
         ≡ replaced n m (lent links.old rules.old entries.old tally.old disputes.old)
         (lent new_links.now new_rules.now new_entries.now (tallied caller.0 tally.old) new_disputes.now) }

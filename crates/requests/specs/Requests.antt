@@ -1,9 +1,9 @@
 -- From a form to a call.
---     program    the caller that the text program is
+--     program     the caller that the text program is
 --     call_for    the call that a form asks for
---     fresh      a request for a new book
---     OfBook     a call has the size of the book, unless it asks for a new one
---     wanted     the call that the code makes of a form
+--     fresh       a request for a new book
+--     OfBook      a call has the size of the book, unless it asks for a new one
+--     wanted      the call that the code makes of a form
 -- Assumes nothing.
 use Rattle.std.specs.Prelude.{◌≡◌, Bool, true, false, ℕ}
 use Rattle.tables.specs.Reply.{Reply, refused, given}

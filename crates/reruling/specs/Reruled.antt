@@ -1,6 +1,6 @@
 -- The change of a rule in the parts that the code has.
 --     stored           the rules with one stored: handling 0 takes it
---     rule_edit         the edit from refusal 5 on
+--     rule_edit        the edit from refusal 5 on
 --     RuleUntouched    what is known of the entries once the rule is stored: what it cannot touch has its lookup
 --     Applied          the rule is stored, every entry for the mark is its lookup, one more edit of the caller is counted, and the dispute counts are
 --                      those of the entries

@@ -50,8 +50,8 @@ fn apply_rule(
     mark: Mark,
     handling: u16,
 ) -> u16
-    requires sized { (Sized n m rules.old entries.old) × (length tally.old ≡ callers) × (caller.0 < callers) × (kind.0 < n) × (mark.0 < m) }
-    requires prepared { (Prepared n m rows.now rules.old order.now reach.now ruled.old) × (Counted m entries.old disputes.old) }
+    requires sized_and_in_range { (Sized n m rules.old entries.old) × (length tally.old ≡ callers) × (caller.0 < callers) × (kind.0 < n) × (mark.0 < m) }
+    requires prepared_and_counted { (Prepared n m rows.now rules.old order.now reach.now ruled.old) × (Counted m entries.old disputes.old) }
     requires rule_untouched { RuleUntouched n m kind.0 mark.0 (bit rows.now) (stored m rules.old kind.0 mark.0 handling) entries.old }
     ensures { (Applied n m caller.0 kind.0 mark.0 (bit rows.now) (stored m rules.old kind.0 mark.0 handling) rules.new
         entries.old entries.new tally.old tally.new disputes.new result)

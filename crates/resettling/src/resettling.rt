@@ -32,7 +32,7 @@ fn resettle(
     entries: &mut [u16],
     disputes: &mut [u16],
 ) -> u16
-    requires sized { (Sized n m rules.now entries.old) × (MarkRange m lo hi) × (e.0 < n) × (Counted m entries.old disputes.old) }
+    requires sized_and_counted { (Sized n m rules.now entries.old) × (MarkRange m lo hi) × (e.0 < n) × (Counted m entries.old disputes.old) }
     requires prepared { Prepared n m rows.now rules.now order.now reach.now ruled.now }
     requires untouched { Untouched n m lo hi (bit rows.now) (stop stops.now) e.0 rules.now entries.old }
     ensures { (Settled n m lo hi (bit rows.now) rules.now entries.old entries.new result)
@@ -62,7 +62,7 @@ pub fn resettle_rule(
     entries: &mut [u16],
     disputes: &mut [u16],
 ) -> u16
-    requires sized { (Sized n m rules.now entries.old) × (kind.0 < n) × (mark.0 < m) × (Counted m entries.old disputes.old) }
+    requires sized_and_counted { (Sized n m rules.now entries.old) × (kind.0 < n) × (mark.0 < m) × (Counted m entries.old disputes.old) }
     requires prepared { Prepared n m rows.now rules.now order.now reach.now ruled.now }
     requires untouched { Untouched n m mark.0 (mark.0 + 1) (bit rows.now) (own_of m rules.now mark.0) kind.0 rules.now entries.old }
     ensures { (Settled n m mark.0 (mark.0 + 1) (bit rows.now) rules.now entries.old entries.new result)
@@ -101,7 +101,7 @@ pub fn resettle_link(
     entries: &mut [u16],
     disputes: &mut [u16],
 ) -> u16
-    requires sized { (Sized n m rules.now entries.old) × (child.0 < n) × (Counted m entries.old disputes.old) }
+    requires sized_and_counted { (Sized n m rules.now entries.old) × (child.0 < n) × (Counted m entries.old disputes.old) }
     requires prepared { Prepared n m rows.now rules.now order.now reach.now ruled.now }
     requires untouched { Untouched n m 0 m (bit rows.now) (λ _. false) child.0 rules.now entries.old }
     ensures { (Settled n m 0 m (bit rows.now) rules.now entries.old entries.new result)

@@ -33,8 +33,8 @@ fn bring_back(
     caller: Caller,
     name: Name,
 ) -> Edited
-    requires book_shaped { (shaped n m (lent links.old rules.old entries.old tally.old disputes.old) ≡ true) × (caller.0 < callers) }
-    requires copies_long { (CopiesLong n m saved_links.now saved_rules.now saved_entries.now saved_disputes.now) × (name.0 < names) }
+    requires shaped_and_caller { (shaped n m (lent links.old rules.old entries.old tally.old disputes.old) ≡ true) × (caller.0 < callers) }
+    requires copies_and_name { (CopiesLong n m saved_links.now saved_rules.now saved_entries.now saved_disputes.now) × (name.0 < names) }
     ensures { (flags : List ℕ) → leaves (edited result) (lent links.new rules.new entries.new tally.new disputes.new)
         ≡ replaced n m (lent links.old rules.old entries.old tally.old disputes.old)
         (state_at n m (lent_store flags saved_links.now saved_rules.now saved_entries.now saved_disputes.now) name.0 (tallied caller.0 tally.old)) }

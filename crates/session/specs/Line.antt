@@ -1,8 +1,8 @@
 -- One line of the text program, from bytes to bytes, through the definitions of the forms, the calls and the answers.
 --     Book       the program's book: its size and the tables that it lends; before an accepted open, n and m are 0
 --     carries    what a call does: the book after it, and the line that is printed
---     turn_of     what a form does
---     line_of     the same of a line of bytes, which comes without its line feed
+--     turn_of    what a form does
+--     line_of    the same of a line of bytes, which comes without its line feed
 -- Assumes nothing.
 use Rattle.std.specs.Prelude.{Bool, true, false, List, ℕ}
 use Rattle.tables.specs.Reply.{Reply, refused, given}

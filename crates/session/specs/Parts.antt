@@ -1,9 +1,9 @@
 -- The program's tables, which have places for 128 kinds and 64 marks: a book stands in their leading parts.
---     Room        the tables have these places
---     parts       their leading parts for a book of n kinds and m marks; book_in: the book that stands in them
+--     Room         the tables have these places
+--     parts        their leading parts for a book of n kinds and m marks; book_in: the book that stands in them
 --     put_in       a book's tables put at the front of theirs; what lies behind stays
 --     size_after   the size of the book after an answer
---     Answered    what a line leaves in the program, by the turn that it is. Line after line, `book` is what the next line's turn is done to
+--     Answered     what a line leaves in the program, by the turn that it is. Line after line, `book` is what the next line's turn is done to
 -- Assumes nothing.
 use Rattle.std.specs.Prelude.{◌≡◌, List, ◌++◌, ℕ, ◌*◌, length, take, drop}
 use Rattle.patterns.specs.Pattern.{Printed}

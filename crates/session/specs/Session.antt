@@ -1,9 +1,9 @@
 -- A session of the text program: lines in, lines out.
---     start       the book before the first line
+--     start        the book before the first line
 --     book_after   the book after some lines
---     answers     the lines that are printed for the lines of a session
+--     answers      the lines that are printed for the lines of a session
 --     lines_of     the lines of an input: a line ends in a line feed, or at the end of the input if it has a byte
---     session     all that the program writes for an input: after each line's answer a line feed
+--     session      all that the program writes for an input: after each line's answer a line feed
 -- Assumes nothing.
 use Rattle.std.specs.Prelude.{true, false, List, [], ◌∷◌, ◌++◌, ℕ, eqb, replicate}
 use Rattle.tables.specs.Lists.{run}

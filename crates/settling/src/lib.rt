@@ -34,8 +34,8 @@ fn settle_kind(
     entries: &mut [u16],
     disputes: &mut [u16],
 ) -> u16
-    requires sized { (Sized n m rules.now entries.old) × (Prepared n m rows.now rules.now order.now reach.now ruled.now) }
-    requires mark_range { (MarkRange m lo hi) × (c < n) × (Counted m entries.old disputes.old) }
+    requires sized_and_prepared { (Sized n m rules.now entries.old) × (Prepared n m rows.now rules.now order.now reach.now ruled.now) }
+    requires kind_marks_and_counts { (MarkRange m lo hi) × (c < n) × (Counted m entries.old disputes.old) }
     ensures { (result ≤ 64) × (Written m lo hi c (stepped n m (bit rows.now) rules.now entries.old c) entries.old entries.new result)
         × (Counted m entries.new disputes.new) }
 {
@@ -67,8 +67,8 @@ pub fn settle(
     entries: &mut [u16],
     disputes: &mut [u16],
 ) -> u16
-    requires sized { (Sized n m rules.now entries.old) × (Prepared n m rows.now rules.now order.now reach.now ruled.now) }
-    requires mark_range { (MarkRange m lo hi) × (Awaiting n m lo hi (bit rows.now) rules.now visited.now entries.old) × (Counted m entries.old disputes.old) }
+    requires sized_and_prepared { (Sized n m rules.now entries.old) × (Prepared n m rows.now rules.now order.now reach.now ruled.now) }
+    requires awaiting_and_counted { (MarkRange m lo hi) × (Awaiting n m lo hi (bit rows.now) rules.now visited.now entries.old) × (Counted m entries.old disputes.old) }
     ensures { (Settled n m lo hi (bit rows.now) rules.now entries.old entries.new result)
         × (Counted m entries.new disputes.new) }
 {

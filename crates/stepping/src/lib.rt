@@ -30,8 +30,8 @@ pub fn inherit_row(
     c: usize,
     out: &mut [u16; 64],
 )
-    requires sized { (Sized n m rules.now entries.now) × (Prepared n m rows.now rules.now order.now reach.now ruled.now) }
-    requires mark_range { (MarkRange m lo hi) × (c < n) × (length out.old ≡ 64) }
+    requires sized_and_prepared { (Sized n m rules.now entries.now) × (Prepared n m rows.now rules.now order.now reach.now ruled.now) }
+    requires kind_and_mark_range { (MarkRange m lo hi) × (c < n) × (length out.old ≡ 64) }
     ensures { Row lo hi (stepped n m (bit rows.now) rules.now entries.now c) out.new }
 {
     merge_parents(rows, n, m, lo, hi, entries, c, out);
@@ -53,8 +53,8 @@ pub fn inherit_entry(
     c: usize,
     j: usize,
 ) -> u16
-    requires sized { (Sized n m rules.now entries.now) × (Prepared n m rows.now rules.now order.now reach.now ruled.now) }
-    requires in_book { (c < n) × (j < m) }
+    requires sized_and_prepared { (Sized n m rules.now entries.now) × (Prepared n m rows.now rules.now order.now reach.now ruled.now) }
+    requires kind_and_mark { (c < n) × (j < m) }
     ensures { result ≡ stepped n m (bit rows.now) rules.now entries.now c j }
 {
     let kind = c as u16;

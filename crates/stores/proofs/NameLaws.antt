@@ -1,5 +1,5 @@
 -- What the checked constructor of a name has tested.
---     name_or            what it gives, by whether the number is below the most names
+--     name_or           what it gives, by whether the number is below the most names
 --     named, unnamed    where it gives a name, and where not
 -- Assumes nothing.
 use mathlib.Core.Path.{◌≡◌, refl}

@@ -2,7 +2,7 @@
 --     call_keeps, save_keeps, return_keeps    the ten calls and a return leave the store, a save leaves the book
 --     lengths_kept                 no call changes the length of a table, whatever it is lent and answers; run_lengths: nor does a list of calls
 --     shaped_same, stored_same     so a book and its store have their lengths for some n and m after it exactly if they had them before
---     state_is_last_saved                   after a list the state with a name is the one that the last accepted save under it found
+--     state_is_last_saved          after a list the state with a name is the one that the last accepted save under it found
 --     tally_long                   .. and the tables that it found have a tally of the book's length
 -- Assumes nothing.
 use mathlib.Core.Path.{◌≡◌, refl, sym, ap, ◌∙◌, subst}

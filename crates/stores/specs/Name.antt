@@ -1,6 +1,6 @@
 -- The names under which states of a book are saved.
---     names        the most names: the store has a flag and a copy of each table for each
---     name         the name with a number
+--     names         the most names: the store has a flag and a copy of each table for each
+--     name          the name with a number
 --     name_below    what the checked constructor gives: the name with that number, if there is one
 -- Assumes nothing.
 use Rattle.std.specs.Prelude.{cond, ℕ, ltb}

@@ -1,10 +1,10 @@
 -- The store of a book, and what save and return answer and leave, check by check as docs/SCOPE.md has them.
---     Store              a flag for each name, and the copies of links, rules, entries and dispute counts; lent_store: the store that a call is lent
---     stored             the tables of the store have exactly their lengths: else refusal 1
+--     Store                a flag for each name, and the copies of links, rules, entries and dispute counts; lent_store: the store that a call is lent
+--     stored               the tables of the store have exactly their lengths: else refusal 1
 --     copy_at, with_copy   the copy under a name in a table of copies, and the table with another copy there
---     state_at, saving    the tables saved under a name, and the store where a book's tables are
---     save, return_to     the two calls
---     saved              the number of each case of the code's answer to a save
+--     state_at, saving     the tables saved under a name, and the store where a book's tables are
+--     save, return_to      the two calls
+--     saved                the number of each case of the code's answer to a save
 -- Assumes nothing.
 use Rattle.std.specs.Prelude.{Bool, ◌&&◌, not, List, ◌++◌, ℕ, ◌+◌, ◌*◌, eqb, ltb, length, get_or, take, drop, set}
 use Rattle.tables.specs.Caller.{callers}

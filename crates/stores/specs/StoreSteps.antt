@@ -1,5 +1,5 @@
 -- What docs/SCOPE.md says of an accepted save, of an accepted return, and of the calls after a return.
---     with_tally        the tables with another tally
+--     with_tally       the tables with another tally
 --     StateIs          the state with a name is these tables, but for their tally
 --     SaveMade         a save led from store s to store s'
 --     ReturnMade       a return led from tables t to tables t' and returned a count

@@ -1,6 +1,6 @@
 -- Lists of calls, each list on a book of its own that has its store: the calls of docs/SCOPE.md, save and return among them.
---     StoredBook    a book's tables and its store
---     StoredCall    one of the ten calls that the store is not lent to, or save, or return, with any arguments
+--     StoredBook     a book's tables and its store
+--     StoredCall     one of the ten calls that the store is not lent to, or save, or return, with any arguments
 --     after_call     the book and the store that a call leaves
 --     edits_since    a caller's edits accepted since the book's last accepted open, an accepted return among them
 --     saved_last     the tables that the last accepted save under a name found

@@ -31,7 +31,7 @@ fn finish(
     out: &mut [u8],
 ) -> State
     requires carried_bound { state.carried ≤ 65 }
-    requires room { state.waiting + 17 ≤ length out.old }
+    requires room_for_answer { state.waiting + 17 ≤ length out.old }
     ensures { Replied
         (line_of (held state (lent links.old rules.old entries.old tally.old disputes.old))
         (take state.carried carry.old ++ part.now))
@@ -68,7 +68,7 @@ fn lines(
     out: &mut [u8],
 ) -> State
     requires carried_bound { start.carried ≤ 65 }
-    requires room { start.waiting + 17 * length block.now ≤ length out.old }
+    requires room_for_answers { start.waiting + 17 * length block.now ≤ length out.old }
     ensures { Worked
         (passed (held start (lent links.old rules.old entries.old tally.old disputes.old))
         (take start.carried carry.old) block.now)

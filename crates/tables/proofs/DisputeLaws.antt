@@ -1,9 +1,9 @@
 -- The dispute counts of a table of entries.
---     one_if_few, bool_byte                          what a test counts: at most one, and the number that code makes of it
+--     one_if_few, bool_byte                               what a test counts: at most one, and the number that code makes of it
 --     length_disputes, disputes_at_mark, disputes_ext     the table of the counts has them at its places, and a list that has them is that table
---     counts_mean, mean_counts                       a table that passes the test of every count is that table, and the other way round
---     at_most                                        no more kinds have a dispute entry than there are
---     some_entry                                     where the counts of a mark differ, so do the entries of some kind; some_place: of any place of the tables
+--     counts_mean, mean_counts                            a table that passes the test of every count is that table, and the other way round
+--     at_most                                             no more kinds have a dispute entry than there are
+--     some_entry                                          where the counts of a mark differ, so do the entries of some kind; some_place: of any place of the tables
 -- Assumes nothing.
 use mathlib.Core.Path.{◌≡◌, refl, sym, ◌∙◌, ap}
 use mathlib.Core.Bool.{Bool, true, false}

@@ -1,12 +1,12 @@
 -- What holds of every accepted edit, and of refresh, whatever tables it was lent.
 --     add_rule_edits, take_rule_edits     the one rule changes, and `RuleEdited` holds
 --     add_link_edits, take_link_edits     the one link changes, and `LinkEdited` holds
---     refresh_renews                    `Refreshed` holds of an accepted refresh
---     replaced_none                     a replaced handling returns 0
---     untouched_none, none_kept         where the parent's entry for a mark is 0, an edit of the link to it can touch nothing, and no entry of the mark changes
---     Passed, passed                    what a call knows whose checks of shape and soundness were passed
---     changed_bytes                     every link byte is 0 or 1 after a link is added or taken
---     added_acyclic, taken_acyclic      no kind is above itself after a link is added or taken
+--     refresh_renews                      `Refreshed` holds of an accepted refresh
+--     replaced_none                       a replaced handling returns 0
+--     untouched_none, none_kept           where the parent's entry for a mark is 0, an edit of the link to it can touch nothing, and no entry of the mark changes
+--     Passed, passed                      what a call knows whose checks of shape and soundness were passed
+--     changed_bytes                       every link byte is 0 or 1 after a link is added or taken
+--     added_acyclic, taken_acyclic        no kind is above itself after a link is added or taken
 -- Each of the four says: only the stated place of rules or links changes; the tables are sound again; entries differ only where the edit can touch, which comes
 -- out the same before and after; a dispute count differs only where the entry of some kind for the mark does; the count is the number of places whose
 -- entry differs; of the tally only the caller's number moves.

@@ -1,13 +1,13 @@
 -- What a list of steps keeps, and what a list of edits does.
---     run_keeps       what every step keeps, a list of steps keeps; run_relates: what every step keeps of two states
---     run_append      a list of steps, and then another
---     edit_cases      an edit is refused and leaves the tables, or it is accepted, and its checks are passed
+--     run_keeps        what every step keeps, a list of steps keeps; run_relates: what every step keeps of two states
+--     run_append       a list of steps, and then another
+--     edit_cases       an edit is refused and leaves the tables, or it is accepted, and its checks are passed
 --     change_in_19     a record that stands for no change is refused by 19
---     run_cases       what holds where a list of edits begins, and after each of its edits if it held before it, holds where the list ends
---     run_stays       after a refusal no edit is tried
---     begin_keeps     the checks before the first edit leave the tables
---     list_keeps      what every edit keeps of the tables, a list keeps
---     list_cases      a list is refused and leaves the tables, or its checks are passed; begins_list: then its edits are run; list_begins: .. if it is given
+--     run_cases        what holds where a list of edits begins, and after each of its edits if it held before it, holds where the list ends
+--     run_stays        after a refusal no edit is tried
+--     begin_keeps      the checks before the first edit leave the tables
+--     list_keeps       what every edit keeps of the tables, a list keeps
+--     list_cases       a list is refused and leaves the tables, or its checks are passed; begins_list: then its edits are run; list_begins: .. if it is given
 -- Assumes nothing.
 use mathlib.Core.Path.{◌≡◌, refl, sym, ap, ◌∙◌, subst}
 use mathlib.Core.Bool.{Bool, true, false, and-eq-true_iff}

@@ -1,11 +1,11 @@
 -- Calls as values.
---     Call        a size and what is asked: one of the ten calls, with any arguments
---     Answer      what a call answers, of whichever kind it is
---     RefusedBy   the answer is a refusal of this number
---     outcome     what a call answers and the tables that it leaves; after: the tables alone
+--     Call         a size and what is asked: one of the ten calls, with any arguments
+--     Answer       what a call answers, of whichever kind it is
+--     RefusedBy    the answer is a refusal of this number
+--     outcome      what a call answers and the tables that it leaves; after: the tables alone
 --     call_of, answered     the call, and the answer, that the code's values stand for
 --     counted_by   a caller's edits accepted since the last accepted open, after a call that answers so
---     Agree       every place of two tables holds the same number
+--     Agree        every place of two tables holds the same number
 -- Assumes nothing.
 use Rattle.std.specs.Prelude.{◌≡◌, Bool, true, false, List, ℕ, ◌+◌, eqb, get_or}
 use Rattle.tables.specs.declared.Edit.{Edit}

@@ -1,6 +1,6 @@
 -- Who enters an edit.
---     callers        the most callers: the tally has a number for each
---     caller         the caller with a number
+--     callers         the most callers: the tally has a number for each
+--     caller          the caller with a number
 --     caller_below    what the checked constructor gives: the caller with that number, if there is one
 -- Assumes nothing.
 use Rattle.std.specs.Prelude.{cond, ℕ, ltb}

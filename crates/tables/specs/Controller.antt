@@ -2,7 +2,7 @@
 --     words16, words32    the numbers that bytes spell
 --     bytes16, bytes32    the bytes of numbers, which spell these numbers: ByteLaws
 --     packed              an answer as one number: 0 for none, 65,536 × (O + 1) + handling, 65,536 × (257 + X), or the refusal's number
---     find_packed          refusal 1 counts bytes; the rest is find on the numbers so spelled
+--     find_packed         refusal 1 counts bytes; the rest is find on the numbers so spelled
 -- Assumes nothing.
 use Rattle.std.specs.Prelude.{Bool, true, false, List, [], ◌∷◌, ℕ, ◌+◌, ◌*◌, ◌/◌, ◌%◌, length}
 use Rattle.tables.specs.Reply.{Reply, refused, given, Finding}

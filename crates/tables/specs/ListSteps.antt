@@ -1,10 +1,10 @@
 -- What docs/SCOPE.md says of a list of edits, edit by edit. ListStepLaws has it of them.
---     Obeys        what holds of an accepted edit, whichever of the four it is
---     EditMade     the edit of a record was accepted: it led from tables t to tables t' and returned a count
---     Steps        the edits of these records were made in order, each accepted; the sum of their counts
---     StoppedAt    a list stopped at a record: those before it were made, and its edit is refused
+--     Obeys         what holds of an accepted edit, whichever of the four it is
+--     EditMade      the edit of a record was accepted: it led from tables t to tables t' and returned a count
+--     Steps         the edits of these records were made in order, each accepted; the sum of their counts
+--     StoppedAt     a list stopped at a record: those before it were made, and its edit is refused
 --     counted_on    what a list answers where edits were accepted before
---     Small        how large the numbers are that a list answers
+--     Small         how large the numbers are that a list answers
 -- Assumes nothing.
 use Rattle.std.specs.Prelude.{◌≡◌, List, [], ◌∷◌, ◌++◌, ℕ, ◌+◌, ◌*◌, ◌≤◌, length}
 use Rattle.tables.specs.declared.Edit.{Edit}

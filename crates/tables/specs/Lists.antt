@@ -1,8 +1,8 @@
 -- The four edits as values, and a list of them in one call.
---     Change         one of the four edits, with any arguments; change_of: the one that the code's value stands for
+--     Change          one of the four edits, with any arguments; change_of: the one that the code's value stands for
 --     edit_outcome    what an edit of a caller answers and the tables that it leaves
 --     change_in       the change that a record of a list stands for; record_outcome: what its edit answers and leaves
---     run            the state that a list of steps leaves: each step gets it as the step before left it
+--     run             the state that a list of steps leaves: each step gets it as the step before left it
 --     make_list       what a list of records answers and leaves
 -- Assumes nothing.
 use Rattle.std.specs.Prelude.{true, false, ◌&&◌, List, [], ◌∷◌, ℕ, ◌+◌, eqb, leb, ltb, length}

@@ -1,6 +1,6 @@
 -- What a call answers, in the numbers and values of docs/SCOPE.md, and which case of the code's enums stands for which.
---     Reply             a refusal with its number, or what the call gives
---     Finding           what find gives; Fault: what inspect gives; TwoKinds: what parties gives; Listing: what a list of edits gives
+--     Reply              a refusal with its number, or what the call gives
+--     Finding            what find gives; Fault: what inspect gives; TwoKinds: what parties gives; Listing: what a list of edits gives
 --     refusal_number     the number of each refusal
 --     opened, edited, found, paired, inspected, carried    the number and values of each case of an answer: the promises use these
 -- Assumes nothing.

@@ -1,15 +1,15 @@
 -- The five tables of a book of n kinds and m marks, as lists, and what they say.
---     Tables          links, rules, entries, tally and dispute counts; lent: the tables that a call is lent
---     sized           n and m are in their ranges, and every table has exactly its length; Lengths: the same as facts
---     shaped          .. of a book's tables: else refusal 1; LengthsOf: the same as facts; Sized: what of it a part of a call asks
+--     Tables            links, rules, entries, tally and dispute counts; lent: the tables that a call is lent
+--     sized             n and m are in their ranges, and every table has exactly its length; Lengths: the same as facts
+--     shaped            .. of a book's tables: else refusal 1; LengthsOf: the same as facts; Sized: what of it a part of a call asks
 --     up_of, own_of     the links and, for one mark, the own rules
---     entries_of       every entry worked out from the links and the rules alone
---     disputes_of      at each mark, the count of its dispute entries
---     links_right     every link byte is 0 or 1, and no kind is above itself
---     sound           sound tables: every link byte is 0 or 1, and `sound_over` the links: no kind is above itself, every entry equals
---                     its lookup, every dispute count is that of its mark's dispute entries
---     differing       at how many places two tables differ
---     tallied         one more accepted edit of a caller
+--     entries_of        every entry worked out from the links and the rules alone
+--     disputes_of       at each mark, the count of its dispute entries
+--     links_right       every link byte is 0 or 1, and no kind is above itself
+--     sound             sound tables: every link byte is 0 or 1, and `sound_over` the links: no kind is above itself, every entry equals
+--                       its lookup, every dispute count is that of its mark's dispute entries
+--     differing         at how many places two tables differ
+--     tallied           one more accepted edit of a caller
 -- Assumes nothing.
 use Rattle.std.specs.Prelude.{◌≡◌, Bool, true, false, ◌&&◌, not, List, [], ◌∷◌, ◌++◌, ℕ, zero, suc, ◌+◌, ◌*◌, ◌≤◌, eqb, leb, ltb, length, get_or, set}
 use Rattle.inheritance.specs.Above.{above, count}

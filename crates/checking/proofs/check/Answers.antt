@@ -11,20 +11,20 @@ use Rattle.checking.proofs.check.Goals as goal
 
 pub loop-j-init : goal.loop-j-init
 loop-j-init c =
-    let s = c.requires.rows_and_counts in
+    let s = c.requires.parents_and_counts in
     (omega arith, progress_none _ _ _ s.2, plain_none _ _ _ _ _, counting_none _ _ _ _ s.3)
 
 pub count_entry-requires : goal.count_entry-requires
 count_entry-requires c =
     let counting = c.loop-j.invariant.3 in
-    (omega (arith, counting.size), omega (arith, c.requires.row_in_tables.0, counting_few _ _ _ _ _ counting c.loop-j-test.true))
+    (omega (arith, counting.size), omega (arith, c.requires.kind_and_row.0, counting_few _ _ _ _ _ counting c.loop-j-test.true))
 
 pub loop-j-preserved : goal.loop-j-preserved
 loop-j-preserved c =
     let l = c.loop-j.invariant in
     let e = c.own-e.ensures ∙ ap (ruled _ _) c.merge.ensures in (
       omega arith,
-      progress_store _ l.1 (omega (arith, c.requires.row_in_tables.1)) e,
+      progress_store _ l.1 (omega (arith, c.requires.kind_and_row.1)) e,
       plain_more _ _ _ _ _ _ l.2 e,
       subst (Counting _ _ _ _) (sym c.count_entry.ensures) (counting_store _ _ _ _ _ l.3 c.loop-j-test.true),
     )

@@ -84,16 +84,16 @@ settle_all-requires c =
     let r = settle_ready _ _ t is-shaped _ (part_length _ 8192 0 fits.1) (part_length _ 64 0 fits.2) in
     (r.0, c.examine_links-linked.ensures.arranged c.if-not-linked.false, r.2, r.3)
 
-pub entry_fault-requires-clause-lookups_size : goal.entry_fault-requires-clause-lookups_size
-entry_fault-requires-clause-lookups_size c =
+pub entry_fault-requires-clause-lookups_as_entries : goal.entry_fault-requires-clause-lookups_as_entries
+entry_fault-requires-clause-lookups_as_entries c =
     let a = c.args in
     let t : Tables = lent a.links.now a.rules.now a.entries.now a.tally.now a.disputes.now in
     let is-shaped : shaped a.n a.m t ≡ true = sym c.shape-shaped.ensures ∙ c.if-not-shaped.false in
     let fits = places_fit _ _ t is-shaped in
     (c.settle_all.auto.entries ∙ part_length _ 8192 0 fits.1, fits.1)
 
-pub entry_fault-requires-clause-counts_size : goal.entry_fault-requires-clause-counts_size
-entry_fault-requires-clause-counts_size c =
+pub entry_fault-requires-clause-counts_as_disputes : goal.entry_fault-requires-clause-counts_as_disputes
+entry_fault-requires-clause-counts_as_disputes c =
     let a = c.args in
     let t : Tables = lent a.links.now a.rules.now a.entries.now a.tally.now a.disputes.now in
     let is-shaped : shaped a.n a.m t ≡ true = sym c.shape-shaped.ensures ∙ c.if-not-shaped.false in

@@ -17,8 +17,8 @@ judge-requires c =
     let few = (has s.0).sizes.kinds in
     (omega (arith, s.2), omega (arith, s.3), omega (arith, (known_place s.0 _ s.2 c.next-at.ensures).0))
 
-pub apply_link-requires-clause-acyclic : goal.apply_link-requires-clause-acyclic
-apply_link-requires-clause-acyclic c =
+pub apply_link-requires-clause-acyclic_after : goal.apply_link-requires-clause-acyclic_after
+apply_link-requires-clause-acyclic_after c =
     let a = c.args in
     let t : Tables = lent a.links.now a.rules.now a.entries.now a.tally.now a.disputes.now in
     let s = c.requires in

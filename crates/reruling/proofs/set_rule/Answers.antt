@@ -18,15 +18,15 @@ returns-then-handling-rules c =
     let s = c.requires in
     (rule_absent _ _ t _ _ a.handling s.0 s.3 _ c.place.ensures a.caller.0 c.if-handling-rules.true, s.0.tracked)
 
-pub apply_rule-count-requires-clause-sized : goal.apply_rule-count-requires-clause-sized
-apply_rule-count-requires-clause-sized c =
+pub apply_rule-count-requires-clause-sized_and_in_range : goal.apply_rule-count-requires-clause-sized_and_in_range
+apply_rule-count-requires-clause-sized_and_in_range c =
     let a = c.args in
     let t : Tables = lent a.links.now a.rules.now a.entries.now a.tally.now a.disputes.now in
     let s = c.requires in
     ((fits_sized _ _ t s.0.fits).0, fits_tally _ _ t s.0.fits, s.1, s.2, s.3)
 
-pub apply_rule-count-requires-clause-prepared : goal.apply_rule-count-requires-clause-prepared
-apply_rule-count-requires-clause-prepared c = let s = c.requires in (s.0.tracked.prepared, counts s.0)
+pub apply_rule-count-requires-clause-prepared_and_counted : goal.apply_rule-count-requires-clause-prepared_and_counted
+apply_rule-count-requires-clause-prepared_and_counted c = let s = c.requires in (s.0.tracked.prepared, counts s.0)
 
 pub apply_rule-count-requires-clause-rule_untouched : goal.apply_rule-count-requires-clause-rule_untouched
 apply_rule-count-requires-clause-rule_untouched c =

@@ -16,15 +16,15 @@ part_long : (name size : ℕ) (l : List ℕ) → name * size + size ≤ length l
 part_long name size l room =
     length-take-le (name * size + size - name * size) (drop (name * size) l) (omega (arith, length-drop (name * size) l)) ∙ omega arith
 
-pub replace-requires-clause-sized : goal.replace-requires-clause-sized
-replace-requires-clause-sized c =
+pub replace-requires-clause-new_sized : goal.replace-requires-clause-new_sized
+replace-requires-clause-new_sized c =
     let a = c.args in
     let p = c.requires in
-    let l = sized_facts 1 1 _ _ _ _ _ _ _ p.book_shaped.0 in
-    let links : Placed a.name.0 (a.n * a.n) a.saved_links.now = placed _ _ _ p.copies_long.1 (mul-le-mul l.kinds.1 l.kinds.1) p.copies_long.0.links_length in
-    let rules : Placed a.name.0 (a.n * a.m) a.saved_rules.now = placed _ _ _ p.copies_long.1 (omega (arith, mul-le-mul l.kinds.1 l.marks.1)) p.copies_long.0.rules_length in
-    let entries : Placed a.name.0 (a.n * a.m) a.saved_entries.now = placed _ _ _ p.copies_long.1 (omega (arith, mul-le-mul l.kinds.1 l.marks.1)) p.copies_long.0.entries_length in
-    let disputes : Placed a.name.0 a.m a.saved_disputes.now = placed _ _ _ p.copies_long.1 (omega (arith, l.marks.1)) p.copies_long.0.disputes_length in (
+    let l = sized_facts 1 1 _ _ _ _ _ _ _ p.shaped_and_caller.0 in
+    let links : Placed a.name.0 (a.n * a.n) a.saved_links.now = placed _ _ _ p.copies_and_name.1 (mul-le-mul l.kinds.1 l.kinds.1) p.copies_and_name.0.links_length in
+    let rules : Placed a.name.0 (a.n * a.m) a.saved_rules.now = placed _ _ _ p.copies_and_name.1 (omega (arith, mul-le-mul l.kinds.1 l.marks.1)) p.copies_and_name.0.rules_length in
+    let entries : Placed a.name.0 (a.n * a.m) a.saved_entries.now = placed _ _ _ p.copies_and_name.1 (omega (arith, mul-le-mul l.kinds.1 l.marks.1)) p.copies_and_name.0.entries_length in
+    let disputes : Placed a.name.0 a.m a.saved_disputes.now = placed _ _ _ p.copies_and_name.1 (omega (arith, l.marks.1)) p.copies_and_name.0.disputes_length in (
       record {
         kinds = l.kinds.1;
         marks = l.marks.1;

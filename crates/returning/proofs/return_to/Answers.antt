@@ -23,8 +23,8 @@ ask_state-requires c =
     let held : stored a.n a.m s ≡ true = sym c.store_shape-stored.ensures ∙ c.if-not-stored.false in
     (stored_facts _ _ s held).flags_length
 
-pub bring_back-requires-clause-copies_long : goal.bring_back-requires-clause-copies_long
-bring_back-requires-clause-copies_long c =
+pub bring_back-requires-clause-copies_and_name : goal.bring_back-requires-clause-copies_and_name
+bring_back-requires-clause-copies_and_name c =
     let a = c.args in
     let s : Store = lent_store a.flags.now a.saved_links.now a.saved_rules.now a.saved_entries.now a.saved_disputes.now in
     let held : stored a.n a.m s ≡ true = sym c.store_shape-stored.ensures ∙ c.if-not-stored.false in

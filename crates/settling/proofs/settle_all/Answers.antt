@@ -12,8 +12,8 @@ rule_rows-requires c =
     let s = c.requires in
     (s.0.kinds, s.0.marks, s.0.rules_size, s.1.kinds, blank_zeros 256 refl)
 
-pub settle-requires-clause-mark_range : goal.settle-requires-clause-mark_range
-settle-requires-clause-mark_range c =
+pub settle-requires-clause-awaiting_and_counted : goal.settle-requires-clause-awaiting_and_counted
+settle-requires-clause-awaiting_and_counted c =
     let s = c.requires in (
       record { most = s.0.marks; low = omega arith; high = omega arith },
       all_visited 128 _ _ _ _ c.args.entries.now refl (omega arith) s.0.kinds,

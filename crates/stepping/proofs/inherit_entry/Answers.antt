@@ -21,4 +21,4 @@ returns c =
     let a = c.args in
     let s = c.requires in
     c.decide_entry.ensures ∙ ap (λ (e : ℕ). apart a.c e (deciding a.order.now a.reach.now a.ruled.now a.c a.j)) c.own-owned.ensures
-    ∙ step_done s.sized.1 s.sized.0.kinds _ _ s.in_book.0 _ s.in_book.1 c.loop-p.invariant.2 (omega arith)
+    ∙ step_done s.sized_and_prepared.1 s.sized_and_prepared.0.kinds _ _ s.kind_and_mark.0 _ s.kind_and_mark.1 c.loop-p.invariant.2 (omega arith)
