@@ -131,14 +131,14 @@ unfolding line_of
 answer_short b line = turn_short b (form_of line)
 
 -- a line was answered: its answer stands at the front of the buffer
-module _ (line : List ℕ) {n m : ℕ} {before after : Tables} {out out-after : List ℕ} {r : Turned} (a : Answered (λ b. line_of b line) n m before after out r out-after) where
+module _ (line : List ℕ) {n m : ℕ} {before after : Tables} {out out_after : List ℕ} {r : Turned} (a : Answered (λ b. line_of b line) n m before after out r out_after) where
   pub line_short : r.length ≤ 16
   line_short = rw a.printed.long (answer_short (book_in n m before) line)
 
-  pub line_kept : length out ≡ 64 → 64 ≡ length out-after
+  pub line_kept : length out ≡ 64 → 64 ≡ length out_after
   line_kept long =
       let short = answer_short (book_in n m before) line in
       rw a.printed.whole (simp (length-append, length-drop) (omega arith))
 
-  pub line_front : take r.length out-after ≡ (line_of (book_in n m before) line).printed
+  pub line_front : take r.length out_after ≡ (line_of (book_in n m before) line).printed
   line_front = rw (a.printed.long, a.printed.whole) (take-append_seam (line_of (book_in n m before) line).printed (drop (length (line_of (book_in n m before) line).printed) out))

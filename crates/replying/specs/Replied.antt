@@ -12,7 +12,7 @@ use Rattle.replying.specs.declared.State.{State}
 abbrev pub held : State → Tables → Book
 held s t = book_in s.n s.m t
 
-pub record Replied (turn : Turn) (at : ℕ) (out : List ℕ) (r : State) (after : Tables) (out-after : List ℕ) : Type 0 where
+pub record Replied (turn : Turn) (at : ℕ) (out : List ℕ) (r : State) (after : Tables) (out_after : List ℕ) : Type 0 where
   pub book : held r after ≡ turn.book
   pub carried : r.carried ≡ 0
-  pub output : Put (turn.printed ++ (10 ∷ [])) out at r.waiting out-after
+  pub output : Put (turn.printed ++ (10 ∷ [])) out at r.waiting out_after

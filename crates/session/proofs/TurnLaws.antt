@@ -84,7 +84,7 @@ open_or_other n m t Request.refresh = inr (record { not_fresh = refl; size = λ 
 
 module _ (call : Call) {a b d : ℕ} {t : Tables} (l : Lending call.n call.m t a b d) {answer : Answer} {links rules entries tally disputes : List ℕ}
     (done : gives answer (lent links rules entries tally disputes) ≡ outcome call (taken l)) (kept : Kept l (lent links rules entries tally disputes))
-    {out out-after : List ℕ} {k : ℕ} (printed : Printed (printed_answer call.n call.m answer) out k out-after) where
+    {out out_after : List ℕ} {k : ℕ} (printed : Printed (printed_answer call.n call.m answer) out k out_after) where
   abbrev part : Tables
   part = lent links rules entries tally disputes
 
@@ -107,7 +107,7 @@ module _ (call : Call) {a b d : ℕ} {t : Tables} (l : Lending call.n call.m t a
 
   -- the call was carried out on the book of n kinds and m marks, as one that asks for a new book or not
   abbrev Done : Bool → (n m : ℕ) → Type 0
-  Done new n m = Answered (λ b. carries_by new b call) n m t after out (size_after n m call answer k) out-after
+  Done new n m = Answered (λ b. carries_by new b call) n m t after out (size_after n m call answer k) out_after
 
   other_done : Other call.n call.m lentParts call.request → Done false call.n call.m
   other_done o =
@@ -115,7 +115,7 @@ module _ (call : Call) {a b d : ℕ} {t : Tables} (l : Lending call.n call.m t a
       let tables-is = ap (λ (r : Result). r.tables) is in
       let said = ap (printed_answer call.n call.m) answer-is in
       rw (answer-is, o.size call k)
-      (record { book = new_book tables-is; tables = came tables-is; printed = subst (λ (x : List ℕ). Printed x out k out-after) said printed })
+      (record { book = new_book tables-is; tables = came tables-is; printed = subst (λ (x : List ℕ). Printed x out k out_after) said printed })
 
   open_done : (n m : ℕ) → gives answer part ≡ told opening (calls.open_book call.n call.m lentParts) → Done true n m
   open_done n m opened =
@@ -132,7 +132,7 @@ module _ (call : Call) {a b d : ℕ} {t : Tables} (l : Lending call.n call.m t a
       rw (o.1, answer-is) (record { book = ap (book_in n m) old; tables = old ∙ whole_kept n m t; printed = rw answer-is at printed }))
       (opening_parts call.n call.m t l.room)
 
-  pub turn_done : (n m : ℕ) → OfBook n m call → Answered (λ b. carries b call) n m t after out (size_after n m call answer k) out-after
+  pub turn_done : (n m : ℕ) → OfBook n m call → Answered (λ b. carries b call) n m t after out (size_after n m call answer k) out_after
   unfolding carries answer_to
   turn_done n m size =
       ⊎_elim
@@ -146,15 +146,15 @@ module _ (call : Call) {a b d : ℕ} {t : Tables} (l : Lending call.n call.m t a
 
 -- ---- A line
 
-module _ {n m : ℕ} {t after : Tables} {out out-after : List ℕ} {r : Turned} (input : List ℕ) {call : Reply Call} (is : call ≡ call_for n m (form_of input)) where
-  pub by_call : Answered (λ b. carries_or b call) n m t after out r out-after → Answered (λ b. line_of b input) n m t after out r out-after
+module _ {n m : ℕ} {t after : Tables} {out out_after : List ℕ} {r : Turned} (input : List ℕ) {call : Reply Call} (is : call ≡ call_for n m (form_of input)) where
+  pub by_call : Answered (λ b. carries_or b call) n m t after out r out_after → Answered (λ b. line_of b input) n m t after out r out_after
   unfolding line_of turn_of
   by_call a = record {
     book = a.book ∙ ap (λ (c : Reply Call). (carries_or (book_in n m t) c).book) is;
     tables = a.tables ∙ ap (λ (c : Reply Call). put_in (carries_or (book_in n m t) c).book.tables t) is;
-    printed = subst (λ (c : Reply Call). Printed (carries_or (book_in n m t) c).printed out r.length out-after) is a.printed;
+    printed = subst (λ (c : Reply Call). Printed (carries_or (book_in n m t) c).printed out r.length out_after) is a.printed;
   }
 
-pub unchanged : (number : ℕ) {n m : ℕ} {t : Tables} {out out-after : List ℕ} {k : ℕ} → Printed (printed_refused number) out k out-after
-    → Answered (λ b. carries_or b (refused number)) n m t t out (of_size n m k) out-after
+pub unchanged : (number : ℕ) {n m : ℕ} {t : Tables} {out out_after : List ℕ} {k : ℕ} → Printed (printed_refused number) out k out_after
+    → Answered (λ b. carries_or b (refused number)) n m t t out (of_size n m k) out_after
 unchanged number {n} {m} {t} printed = record { book = refl; tables = whole_kept n m t; printed = printed }

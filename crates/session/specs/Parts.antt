@@ -49,7 +49,7 @@ size_after n m call (listing reply) length = of_size n m length
 
 -- `turn` was done to the book: the book after it stands in the leading parts of the tables, what lies behind stays, and its answer stands at the
 -- front of `out`
-pub record Answered (turn : Book → Turn) (n m : ℕ) (before after : Tables) (out : List ℕ) (r : Turned) (out-after : List ℕ) : Type 0 where
+pub record Answered (turn : Book → Turn) (n m : ℕ) (before after : Tables) (out : List ℕ) (r : Turned) (out_after : List ℕ) : Type 0 where
   pub book : book_in r.n r.m after ≡ (turn (book_in n m before)).book
   pub tables : after ≡ put_in (turn (book_in n m before)).book.tables before
-  pub printed : Printed (turn (book_in n m before)).printed out r.length out-after
+  pub printed : Printed (turn (book_in n m before)).printed out r.length out_after

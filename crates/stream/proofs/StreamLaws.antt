@@ -169,8 +169,8 @@ stream_is_session blocks = streams blocks start []
 
 -- ---- The functions' contracts
 
-pub closed_line : (b : Book) (line : List ℕ) {out : List ℕ} {r : State} {after : Tables} {out-after : List ℕ} → 0 < length line
-    → Replied (line_of b line) 0 out r after out-after → Closed (closed b line) out r.waiting after out-after
+pub closed_line : (b : Book) (line : List ℕ) {out : List ℕ} {r : State} {after : Tables} {out_after : List ℕ} → 0 < length line
+    → Replied (line_of b line) 0 out r after out_after → Closed (closed b line) out r.waiting after out_after
 unfolding closed run answers written
 closed_line b [] some done = absurd (omega arith)
 closed_line b (x ∷ line) {after = after} some done =
