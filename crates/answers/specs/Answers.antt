@@ -6,8 +6,8 @@
 --     printed_answer    what a call answers, of whichever kind it is
 -- Assumes nothing.
 use Rattle.std.specs.Prelude.{List, [], ◌∷◌, ℕ}
-use Rattle.patterns.specs.Bytes.{bytes}
-use Rattle.patterns.specs.Pattern.{filled}
+use Rattle.forms.specs.Bytes.{bytes}
+use Rattle.forms.specs.Pattern.{filled}
 use Rattle.tables.specs.Books.{Answer, opening, editing, finding, pairing, inspecting, listing}
 use Rattle.tables.specs.Reply.{Reply, refused, given, Finding}
 

@@ -1,82 +1,89 @@
-// The answers of the text program: the line that tells each, printed to bytes.
+// The answers of the text program: the line that tells each, printed into a text that is lent: returned by value, it costs a find a sixth of its time more.
 #![tactic(auto)]
 
-ghost use Rattle.patterns.specs.Pattern.{Printed};
+ghost use Rattle.std.specs.Prelude.{◌≡◌, ◌+◌, ◌≤◌, ◌++◌, length, codes};
+ghost use Rattle.forms.specs.Decimal.{digits};
 ghost use Rattle.tables.specs.Books.{answered};
-ghost use Rattle.tables.specs.Reply.{refusal_number, opened, edited, found};
-ghost use Rattle.answers.specs.Answers.{printed_refused, printed_opened, printed_edited, printed_found, printed_answer};
+ghost use Rattle.tables.specs.Reply.{given, refusal_number, found_of};
+ghost use Rattle.answers.specs.Answers.{printed_refused, printed_found, printed_answer};
 
-use patterns::fill;
-use tables::{Answer, Edited, Found, Opened, Refusal};
+use arrayvec::ArrayString;
+use tables::{Answer, Found, Refusal};
 
-// The line of a refusal.
-#[tactic(auto, unfolding(patterns::specs::Pattern::slots, patterns::specs::Pattern::filled))]
-pub fn print_refused(why: Refusal, out: &mut [u8; 64]) -> usize
-    ensures { Printed (printed_refused (refusal_number why)) out.old result out.new }
+// A number behind a text. This and the next two are inlined, so that what is pushed is a constant.
+#[tactic(auto, using(forms::proofs::DecimalLaws::digits_decimal, forms::proofs::DecimalLaws::digits_most))]
+#[inline(always)]
+fn push_number(number: u16, text: &mut ArrayString<64>)
+    requires { length text.old.bytes + 5 ≤ 64 }
+    ensures bytes { text.new.bytes ≡ text.old.bytes ++ digits number }
+    ensures length { length text.new.bytes ≤ length text.old.bytes + 5 }
 {
-    let values = [why.number() as u16, 0, 0];
-    fill(b"(refused #)", &values, out)
+    let mut buffer = itoa::Buffer::new();
+    text.push_str(buffer.format(number));
 }
 
-// The line of what open answers about a book of n kinds and m marks.
-#[tactic(auto, unfolding(patterns::specs::Pattern::slots, patterns::specs::Pattern::filled))]
-fn print_opened(reply: Opened, n: u16, m: u16, out: &mut [u8; 64]) -> usize
-    ensures { Printed (printed_opened n m (opened reply)) out.old result out.new }
+// A word with a number: `(word 1)`. The word comes with its bracket and the space after it.
+#[inline(always)]
+fn with_number(word: &str, number: u16, text: &mut ArrayString<64>)
+    requires { length word.now ≤ 16 }
+    ensures { text.new.bytes ≡ word.now ++ (digits number ++ codes ")") }
 {
-    match reply {
-        Opened::Done => {
-            let values = [n, m, 0];
-            fill(b"(opened # #)", &values, out)
-        }
-        Opened::Refused(why) => print_refused(why, out),
-    }
+    text.clear();
+    text.push_str(word);
+    push_number(number, text);
+    text.push_str(")");
 }
 
-// The line of what an edit answers.
-#[tactic(auto, unfolding(patterns::specs::Pattern::slots, patterns::specs::Pattern::filled))]
-fn print_edited(reply: Edited, out: &mut [u8; 64]) -> usize
-    ensures { Printed (printed_edited (edited reply)) out.old result out.new }
+// A word with two numbers: `(word 1 2)`.
+#[inline(always)]
+fn with_numbers(word: &str, first: u16, second: u16, text: &mut ArrayString<64>)
+    requires { length word.now ≤ 16 }
+    ensures { text.new.bytes ≡ word.now ++ (digits first ++ (codes " " ++ (digits second ++ codes ")"))) }
 {
-    match reply {
-        Edited::Done(count) => {
-            let values = [count, 0, 0];
-            fill(b"(done #)", &values, out)
-        }
-        Edited::Refused(why) => print_refused(why, out),
-    }
+    text.clear();
+    text.push_str(word);
+    push_number(first, text);
+    text.push_str(" ");
+    push_number(second, text);
+    text.push_str(")");
 }
 
-// The line of what find answers.
-#[tactic(auto, unfolding(patterns::specs::Pattern::slots, patterns::specs::Pattern::filled))]
-fn print_found(reply: Found, out: &mut [u8; 64]) -> usize
-    ensures { Printed (printed_found (found reply)) out.old result out.new }
+/// The line of a refusal.
+#[tactic(auto, unfolding(forms::specs::Pattern::filled))]
+pub fn print_refused(why: Refusal, text: &mut ArrayString<64>)
+    ensures { text.new.bytes ≡ printed_refused (refusal_number why) }
 {
-    match reply {
+    with_number("(refused ", u16::from(u8::from(why)), text)
+}
+
+// The line of what find gives.
+#[tactic(auto, unfolding(forms::specs::Pattern::filled))]
+fn print_found(found: Found, text: &mut ArrayString<64>)
+    ensures { text.new.bytes ≡ printed_found (given (found_of found)) }
+{
+    match found {
         Found::None => {
-            let values = [0, 0, 0];
-            fill(b"(none)", &values, out)
+            text.clear();
+            text.push_str("(none)");
         }
-        Found::Rule(kind, handling) => {
-            let values = [kind.0, handling, 0];
-            fill(b"(rule # #)", &values, out)
-        }
-        Found::Dispute(kind) => {
-            let values = [kind.0, 0, 0];
-            fill(b"(dispute #)", &values, out)
-        }
-        Found::Refused(why) => print_refused(why, out),
+        Found::Rule(kind, handling) => with_numbers("(rule ", kind.0, handling, text),
+        Found::Dispute(kind) => with_number("(dispute ", kind.0, text),
     }
 }
 
-// The line of what a call answers about a book of n kinds and m marks. No form asks for parties or inspect: of them nothing is printed.
-pub fn print_answer(answer: Answer, n: u16, m: u16, out: &mut [u8; 64]) -> usize
-    ensures { Printed (printed_answer n m (answered answer)) out.old result out.new }
+/// The line of what a call answers about a book of n kinds and m marks. No form asks for parties or inspect: of them nothing is printed.
+#[tactic(auto, unfolding(forms::specs::Pattern::filled))]
+pub fn print_answer(answer: Answer, n: u16, m: u16, text: &mut ArrayString<64>)
+    ensures { text.new.bytes ≡ printed_answer n m (answered answer) }
 {
     match answer {
-        Answer::Opened(reply) => print_opened(reply, n, m, out),
-        Answer::Edited(reply) => print_edited(reply, out),
-        Answer::Found(reply) => print_found(reply, out),
-        Answer::Paired(_) => 0,
-        Answer::Inspected(_) => 0,
+        Answer::Opened(Ok(())) => with_numbers("(opened ", n, m, text),
+        Answer::Opened(Err(why)) => print_refused(why, text),
+        Answer::Edited(Ok(count)) => with_number("(done ", count, text),
+        Answer::Edited(Err(why)) => print_refused(why, text),
+        Answer::Found(Ok(found)) => print_found(found, text),
+        Answer::Found(Err(why)) => print_refused(why, text),
+        Answer::Paired(_) => text.clear(),
+        Answer::Inspected(_) => text.clear(),
     }
 }

@@ -15,24 +15,26 @@ use lib.Dec.{eqb}
 use lib.ListN.{get_or, replicate, length}
 use Rattle.inheritance.specs.Above.{Chain, link, step, Upto, Acyclic, above, one_if}
 use Rattle.inheritance.proofs.AboveLaws.{or_cases, above_chain, chain_above, upto_step, count_none, count_some}
+use Rattle.relation.specs.declared.Relation.{Relation}
 use Rattle.relation.specs.Bit.{bit, Blank}
+use Rattle.arranging.specs.declared.State.{State}
+use Rattle.arranging.specs.declared.State.TheVariants.{New}
 use Rattle.arranging.specs.Arranged.{state, unplaced, Joined, Placed, Climbed, Arranged, Arrangement}
 use Rattle.inheritance.proofs.Bools.{same_bool}
-use Rattle.relation.proofs.Zeros.{get_d_zeros}
-use Rattle.arranging.proofs.Placing.{unplaced_at, placed_none}
+use Rattle.arranging.proofs.Placing.{unplaced_at, placed_none, state_small, all_new}
 
-pub record Arranging (n : ℕ) (up : ℕ → ℕ → Bool) (c k : ℕ) (states order reach : List ℕ) : Type 0 where
+pub record Arranging (n : ℕ) (up : ℕ → ℕ → Bool) (c k : ℕ) (states : List State) (order : List ℕ) (reach : Relation) : Type 0 where
   pub placed : Placed n up k states order reach
   pub gone : (d : ℕ) → d < c → state states d ≢ 0
   pub calm : Acyclic n up → (d : ℕ) → d < n → state states d ≢ 1
 
--- k is not written as 128, so that `replicate k 0` stays as it is
-pub arranging_none : (n : ℕ) (up : ℕ → ℕ → Bool) (k : ℕ) {order reach : List ℕ} → k ≡ 128 → length order ≡ 128 → Blank reach
-    → Arranging n up 0 0 (replicate k 0) order reach
+-- k is not written as 128, so that `replicate k New` stays as it is
+pub arranging_none : (n : ℕ) (up : ℕ → ℕ → Bool) (k : ℕ) {order : List ℕ} {reach : Relation} → k ≡ 128 → length order ≡ 128 → Blank reach
+    → Arranging n up 0 0 (replicate k New) order reach
 arranging_none n up k e long b =
-    record { placed = placed_none n up k e long b; gone = λ d l. absurd (omega arith); calm = λ acyclic d l. omega (arith, get_d_zeros k d) }
+    record { placed = placed_none n up k e long b; gone = λ d l. absurd (omega arith); calm = λ acyclic d l. omega (arith, all_new k d) }
 
-module _ {n : ℕ} {up : ℕ → ℕ → Bool} {c k : ℕ} {states order reach : List ℕ} (lt : c < n) (s : Arranging n up c k states order reach) where
+module _ {n : ℕ} {up : ℕ → ℕ → Bool} {c k : ℕ} {states : List State} {order : List ℕ} {reach : Relation} (lt : c < n) (s : Arranging n up c k states order reach) where
   pub arranging_keep : state states c ≢ 0 → Arranging n up (c + 1) k states order reach
   arranging_keep vis = record {
     placed = s.placed;
@@ -40,7 +42,7 @@ module _ {n : ℕ} {up : ℕ → ℕ → Bool} {c k : ℕ} {states order reach :
     calm = s.calm;
   }
 
-  pub arranging_climb : {k' : ℕ} {states' order' reach' : List ℕ} → Placed n up k' states' order' reach' → Climbed n up c states states' reach reach'
+  pub arranging_climb : {k' : ℕ} {states' : List State} {order' : List ℕ} {reach' : Relation} → Placed n up k' states' order' reach' → Climbed n up c states states' reach reach'
       → Arranging n up (c + 1) k' states' order' reach'
   arranging_climb {states' = states'} p m = record {
     placed = p;
@@ -53,7 +55,7 @@ module _ {n : ℕ} {up : ℕ → ℕ → Bool} {c k : ℕ} {states order reach :
 
 -- ---- every kind has a place
 
-module _ {n : ℕ} {up : ℕ → ℕ → Bool} {states order reach : List ℕ} (most : n ≤ 128) (s : Placed n up n states order reach) where
+module _ {n : ℕ} {up : ℕ → ℕ → Bool} {states : List State} {order : List ℕ} {reach : Relation} (most : n ≤ 128) (s : Placed n up n states order reach) where
   abbrev at : ℕ → ℕ
   at i = get_or order i 0
 
@@ -122,10 +124,9 @@ module _ {n : ℕ} {up : ℕ → ℕ → Bool} {states order reach : List ℕ} (
       (λ b. ⊎_elim (λ e. has_own c i m (eqb-true (at i) c e)) (λ a. has_above (above_chain n up c (at i) (kind i m) a) l i m refl)
       (or_cases (eqb (at i) c) (above n up c (at i)) b))
 
-arranged : {n : ℕ} {rows states order reach : List ℕ} → n ≤ 128 → Placed n (bit rows) n states order reach → Arranged n rows order reach
+arranged : {n : ℕ} {rows : Relation} {states : List State} {order : List ℕ} {reach : Relation} → n ≤ 128 → Placed n (bit rows) n states order reach → Arranged n rows order reach
 arranged {n} {rows} {order = order} most s = record {
   long_order = s.long_order;
-  long_reach = s.long_reach;
   kinds = kind most s;
   once = one_place most s;
   each = place_of most s;
@@ -134,7 +135,7 @@ arranged {n} {rows} {order = order} most s = record {
   beyond = λ c i l h m. (not-eq-not {b = false}).0 (λ b. absurd (omega (arith, (only_upto most s c i l m b).0)));
 }
 
-pub arrangement : {n k : ℕ} {rows states order reach : List ℕ} → n ≤ 128 → Arranging n (bit rows) n k states order reach
+pub arrangement : {n k : ℕ} {rows : Relation} {states : List State} {order : List ℕ} {reach : Relation} → n ≤ 128 → Arranging n (bit rows) n k states order reach
     → Arrangement n rows order reach (eqb k n)
 arrangement {n} {k} {rows} {states} {order} {reach} most s = record {
   arranged = λ e. arranged most (all e);
@@ -146,4 +147,4 @@ arrangement {n} {k} {rows} {states} {order} {reach} most s = record {
     all e = subst (λ (x : ℕ). Placed n (bit rows) x states order reach) (eqb-true k n e) s.placed
 
     two : Acyclic n (bit rows) → (c : ℕ) → c < n → state states c ≡ 2
-    two free c l = omega (arith, s.gone c l, s.calm free c l, s.placed.small c)
+    two free c l = omega (arith, s.gone c l, s.calm free c l, state_small states c)

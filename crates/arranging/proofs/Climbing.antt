@@ -3,7 +3,7 @@
 --     climbing_none                c is on the way, and no parent is gone through
 --     climbing_up                  parent p is gone up from
 --     climbing_on                  .. or was visited, and its row is gathered
---     climbing_skip, climbing_at   there is no parent before the next; and the next is a kind
+--     climbing_skip                there is no parent before the next
 --     climbing_written             what was gathered is stored as row c
 --     fewer                        fewer kinds are unvisited than where c was
 --     climbed_placed, climbed      every parent is gone through, and c gets a place, or does not
@@ -12,46 +12,48 @@ use mathlib.Core.Path.{◌≡◌, refl, sym, ap, ◌∙◌}
 use mathlib.Core.Logic.{◌≢◌, ◌⊎◌, inl, inr, ⊎_elim, by_cases}
 use mathlib.Core.Bool.{Bool, true, false, ◌&&◌, false≢true, and-eq-true_iff}
 use mathlib.Core.List.{List}
-use Prim.Native.Nat.{ℕ, ◌+◌, ◌-◌, ◌*◌, ◌<◌, ◌≤◌, min}
+use Prim.Native.Nat.{ℕ, ◌+◌, ◌-◌, ◌<◌, ◌≤◌}
 use native.Mathlib.Decide.{ℕ_discrete, dec_lt}
 use native.Mathlib.Omega.{arith}
 use borrow.Author.Tests.{eq-eqb, eqb-true}
 use lib.Dec.{eqb}
-use lib.Bits.{bit_or}
-use lib.ListN.{length, get_or, set}
-use lib.Seq.{get_or-set_same, get_or-set_other}
+use lib.ListN.{length, set}
 use Rattle.inheritance.specs.Above.{Chain, link, Upto, Acyclic, count}
 use Rattle.inheritance.proofs.AboveLaws.{count_lt, upto_chain, no_chain}
-use Rattle.relation.specs.Bit.{bit}
+use Rattle.relation.specs.declared.KindSet.{KindSet}
+use Rattle.relation.specs.declared.Relation.{Relation}
+use Rattle.relation.specs.Bit.{holds, bit, none_of, row_of, Gains, RowSet}
 use Rattle.relation.specs.First.{First}
-use Rattle.arranging.specs.Arranged.{state, unvisited, Placed, Fresh, Climbed}
-use Rattle.relation.proofs.Stores.{SetAt, set_at}
-use Rattle.arranging.proofs.Placing.{Widened, apart, placed_row, placed_visit, placed_more}
-use Rattle.arranging.proofs.Gathering.{Gathered, Written, gathered_none, gathered_kept, gathered_more, gathered_written, gathered_joined}
+use Rattle.arranging.specs.declared.State.{State}
+use Rattle.arranging.specs.declared.State.TheVariants.{Open, Done}
+use Rattle.arranging.specs.Arranged.{number_of, state, unvisited, Placed, Fresh, Climbed}
+use Rattle.relation.proofs.BitLaws.{row_same, row_other}
+use Rattle.arranging.proofs.Placing.{Widened, StateSet, state_set, state_same, state_other, state_small, apart, placed_row, placed_visit, placed_more}
+use Rattle.arranging.proofs.Gathering.{Gathered, gathered_none, gathered_kept, gathered_more, gathered_written, gathered_joined}
 
-unvisited_at : (s : List ℕ) (d x : ℕ) → state s d ≡ x → unvisited s d ≡ eqb x 0
+unvisited_at : (s : List State) (d x : ℕ) → state s d ≡ x → unvisited s d ≡ eqb x 0
 unfolding unvisited
 unvisited_at s d x e = ap (λ (y : ℕ). eqb y 0) e
 
-unvisited_is : (s : List ℕ) (d : ℕ) → unvisited s d ≡ true → state s d ≡ 0
+unvisited_is : (s : List State) (d : ℕ) → unvisited s d ≡ true → state s d ≡ 0
 unfolding unvisited
 unvisited_is s d e = eqb-true (state s d) 0 e
 
 -- v and reach where the loop began, w and reach' now
-pub record Climbing (n : ℕ) (up : ℕ → ℕ → Bool) (c p k : ℕ) (good : Bool) (low high : ℕ) (v w order reach reach' : List ℕ) : Type 0 where
+pub record Climbing (n : ℕ) (up : ℕ → ℕ → Bool) (c p k : ℕ) (good : Bool) (above : KindSet) (v w : List State) (order : List ℕ) (reach reach' : Relation) : Type 0 where
   pub within : p ≤ n
   pub placed : Placed n up k w order reach'
   pub states : (d : ℕ) → d < n → state v d ≢ 0 → state w d ≡ state v d
   pub rows : (d q : ℕ) → d < n → q < 128 → d ≢ c → state v d ≢ 0 → bit reach' d q ≡ bit reach d q
-  pub gathered : Gathered up reach' c p low high
+  pub gathered : Gathered up reach' c p above
   pub gone : (x : ℕ) → x < p → up c x ≡ true → state w x ≢ 0
   pub fit : good ≡ true → (x : ℕ) → x < p → up c x ≡ true → state w x ≡ 2
   pub calm : Acyclic n up → ((g : ℕ) → g < n → state v g ≡ 1 → Upto n up g c)
       → (good ≡ true) × ((d : ℕ) → d < n → state w d ≡ 1 → state v d ≡ 1)
 
 module _ {n : ℕ} {up : ℕ → ℕ → Bool} {c : ℕ} (most : n ≤ 128) where
-  pub climbing_none : {k : ℕ} {s order reach : List ℕ} → Fresh n c s → Placed n up k s order reach
-      → Climbing n up c 0 k true 0 0 (set s c 1) (set s c 1) order reach reach
+  pub climbing_none : {k : ℕ} {s : List State} {order : List ℕ} {reach : Relation} → Fresh n c s → Placed n up k s order reach
+      → Climbing n up c 0 k true none_of (set s c Open) (set s c Open) order reach reach
   climbing_none {s = s} {reach = reach} f p = record {
     within = omega arith;
     placed = placed_visit p most f.kind f.new;
@@ -63,13 +65,13 @@ module _ {n : ℕ} {up : ℕ → ℕ → Bool} {c : ℕ} (most : n ≤ 128) wher
     calm = λ acyclic way. (refl, λ d l e. e);
   }
 
-  module _ {p k : ℕ} {good : Bool} {low high : ℕ} {v w order reach reach' : List ℕ} (lt : c < n) (way : state v c ≡ 1)
-      (s : Climbing n up c p k good low high v w order reach reach') where
+  module _ {p k : ℕ} {good : Bool} {above : KindSet} {v w : List State} {order : List ℕ} {reach reach' : Relation} (lt : c < n) (way : state v c ≡ 1)
+      (s : Climbing n up c p k good above v w order reach reach') where
     pub on_way : state w c ≡ 1
     on_way = s.states c lt (omega arith) ∙ way
 
-    pub climbing_up : {k' : ℕ} {w' order' reach'' : List ℕ} → p < n → up c p ≡ true → Placed n up k' w' order' reach'' → Climbed n up p w w' reach' reach''
-        → Climbing n up c p k' good low high v w' order' reach reach''
+    pub climbing_up : {k' : ℕ} {w' : List State} {order' : List ℕ} {reach'' : Relation} → p < n → up c p ≡ true → Placed n up k' w' order' reach'' → Climbed n up p w w' reach' reach''
+        → Climbing n up c p k' good above v w' order' reach reach''
     climbing_up {w' = w'} {reach'' = reach''} l u placed m = record {
       within = s.within;
       placed = placed;
@@ -86,14 +88,14 @@ module _ {n : ℕ} {up : ℕ → ℕ → Bool} {c : ℕ} (most : n ≤ 128) wher
         was : (d : ℕ) → d < n → state v d ≢ 0 → state w d ≢ 0
         was d h ne = omega (arith, s.states d h ne)
 
-    pub climbing_on : p < n → up c p ≡ true → state w p ≢ 0
-        → Climbing n up c (p + 1) k (good && eqb (state w p) 2) (bit_or low (get_or reach' (2 * p) 0)) (bit_or high (get_or reach' (2 * p + 1) 0)) v w order reach reach'
-    climbing_on l u vis = record {
+    pub climbing_on : {row next : KindSet} → p < n → up c p ≡ true → state w p ≢ 0 → row ≡ row_of reach' p → Gains above next (holds row)
+        → Climbing n up c (p + 1) k (good && eqb (state w p) 2) next v w order reach reach'
+    climbing_on l u vis is gains = record {
       within = omega arith;
       placed = s.placed;
       states = s.states;
       rows = s.rows;
-      gathered = gathered_more u s.gathered;
+      gathered = gathered_more is gains u s.gathered;
       gone = λ x h e. by_cases (dec_lt x p) (λ m. s.gone x m e) (λ m. let same : x ≡ p = omega arith in omega (arith, ap (state w) same));
       fit = λ g x h e.
           let both = (and-eq-true_iff good (eqb (state w p) 2)).0 g in
@@ -105,32 +107,32 @@ module _ {n : ℕ} {up : ℕ → ℕ → Bool} {c : ℕ} (most : n ≤ 128) wher
         two : Acyclic n up → ((g : ℕ) → g < n → state v g ≡ 1 → Upto n up g c) → ((d : ℕ) → d < n → state w d ≡ 1 → state v d ≡ 1) → state w p ≡ 2
         two acyclic ways old =
             let no : state w p ≢ 1 = λ one. no_chain n up acyclic l (upto_chain n up (ways p l (old p l one)) (link l u)) in
-            omega (arith, s.placed.small p)
+            omega (arith, state_small w p)
 
-    pub climbing_skip : {i : ℕ} → First (up c) p 128 i → Climbing n up c (min i n) k good low high v w order reach reach'
+    pub climbing_skip : {i : ℕ} → First (up c) p n i → Climbing n up c i k good above v w order reach reach'
     climbing_skip {i} f = record {
-      within = omega arith;
+      within = f.high;
       placed = s.placed;
       states = s.states;
       rows = s.rows;
       gathered = record {
         theirs = λ x q l h u. s.gathered.theirs x q (before x l u) h u;
-        only = λ q h e. let (x, l, u, b) = s.gathered.only q h e in (x, omega (arith, f.low, s.within), u, b);
+        only = λ q h e. let (x, l, u, b) = s.gathered.only q h e in (x, omega (arith, f.low), u, b);
       };
       gone = λ x l u. s.gone x (before x l u) u;
       fit = λ g x l u. s.fit g x (before x l u) u;
       calm = s.calm;
     }
       where
-        before : (x : ℕ) → x < min i n → up c x ≡ true → x < p
-        before x l u = by_cases (dec_lt x p) (λ m. m) (λ m. absurd (false≢true (sym (f.none x (omega arith) (omega arith)) ∙ u)))
+        before : (x : ℕ) → x < i → up c x ≡ true → x < p
+        before x l u = by_cases (dec_lt x p) (λ m. m) (λ m. absurd (false≢true (sym (f.none x (omega arith) l) ∙ u)))
 
-    pub climbing_written : {reach'' : List ℕ} → Written c low high reach' reach'' → Climbing n up c p k good low high v w order reach reach''
+    pub climbing_written : {reach'' : Relation} → RowSet c above reach' reach'' → Climbing n up c p k good above v w order reach reach''
     climbing_written a = record {
       within = s.within;
-      placed = placed_row s.placed on_way a.long a.other;
+      placed = placed_row s.placed on_way (λ d q _ ne. row_other a d q ne);
       states = s.states;
-      rows = λ d q h hq ne was. a.other d q hq ne ∙ s.rows d q h hq ne was;
+      rows = λ d q h hq ne was. row_other a d q ne ∙ s.rows d q h hq ne was;
       gathered = gathered_written a s.gathered;
       gone = s.gone;
       fit = s.fit;
@@ -139,16 +141,17 @@ module _ {n : ℕ} {up : ℕ → ℕ → Bool} {c : ℕ} (most : n ≤ 128) wher
 
   -- ---- from where c was not visited
 
-  module _ {p k : ℕ} {good : Bool} {low high : ℕ} {s w order order₀ reach reach' : List ℕ} {k₀ : ℕ} (f : Fresh n c s) (p₀ : Placed n up k₀ s order₀ reach)
-      (m : Climbing n up c p k good low high (set s c 1) w order reach reach') where
+  module _ {p k : ℕ} {good : Bool} {above : KindSet} {s w : List State} {order order₀ : List ℕ} {reach reach' : Relation} {k₀ : ℕ} (f : Fresh n c s) (p₀ : Placed n up k₀ s order₀ reach)
+      (m : Climbing n up c p k good above (set s c Open) w order reach reach') where
     in_list : c < length s
     in_list = omega (arith, f.kind, p₀.long_states)
 
-    pub marked : state (set s c 1) c ≡ 1
-    marked = get_or-set_same s c 1 0 in_list
+    pub marked : state (set s c Open) c ≡ 1
+    unfolding number_of
+    marked = state_same s c Open in_list
 
-    after : (d : ℕ) → d ≢ c → state (set s c 1) d ≡ state s d
-    after d ne = get_or-set_other s c d 1 0 ne
+    after : (d : ℕ) → d ≢ c → state (set s c Open) d ≡ state s d
+    after d ne = state_other s c d Open ne
 
     other : (d : ℕ) → state s d ≢ 0 → d ≢ c
     other d ne = apart s c d (omega (arith, f.new))
@@ -165,7 +168,7 @@ module _ {n : ℕ} {up : ℕ → ℕ → Bool} {c : ℕ} (most : n ≤ 128) wher
         go d l e (yes h) = unvisited_at s d 0 h
         go d l e (no h) = absurd (h (sym (kept_state d l h) ∙ e))
 
-    module _ {w' reach'' : List ℕ} (same : (d : ℕ) → d ≢ c → state w' d ≡ state w d)
+    module _ {w' : List State} {reach'' : Relation} (same : (d : ℕ) → d ≢ c → state w' d ≡ state w d)
         (rows : (d q : ℕ) → q < 128 → d ≢ c → bit reach'' d q ≡ bit reach' d q) (vis : state w' c ≢ 0)
         (done : good ≡ true → state w' c ≢ 1) where
       climbed_so : Climbed n up c s w' reach reach''
@@ -176,14 +179,14 @@ module _ {n : ℕ} {up : ℕ → ℕ → Bool} {c : ℕ} (most : n ≤ 128) wher
         };
         gone = vis;
         calm = λ acyclic ways d l e.
-            let (fine, old) = m.calm acyclic (λ g h one. on g h one ways (set_at s c 1 in_list g)) in
+            let (fine, old) = m.calm acyclic (λ g h one. on g h one ways (state_set s c Open in_list g)) in
             ⊎_elim
             (λ (y : d ≡ c). absurd (done fine (sym (ap (state w') y) ∙ e)))
             (λ ne. sym (after d ne) ∙ old d l (sym (same d ne) ∙ e))
             (dec d);
       }
         where
-          on : (g : ℕ) → g < n → state (set s c 1) g ≡ 1 → ((g : ℕ) → g < n → state s g ≡ 1 → Chain n up g c) → SetAt s c 1 g → Upto n up g c
+          on : (g : ℕ) → g < n → state (set s c Open) g ≡ 1 → ((g : ℕ) → g < n → state s g ≡ 1 → Chain n up g c) → StateSet s c Open g → Upto n up g c
           on g h one ways (inl y) = inl y.0
           on g h one ways (inr y) = inr (ways g h (sym y.1 ∙ one))
 
@@ -194,26 +197,23 @@ module _ {n : ℕ} {up : ℕ → ℕ → Bool} {c : ℕ} (most : n ≤ 128) wher
               go (yes e) = inl e
               go (no e) = inr e
 
-  pub climbed_placed : {k k₀ low high : ℕ} {s w order order₀ reach old reach' reach'' : List ℕ} → Fresh n c s → Placed n up k₀ s order₀ reach
-      → Climbing n up c n k true low high (set s c 1) w order reach old → Written c low high old reach'
+  pub climbed_placed : {k k₀ : ℕ} {above : KindSet} {s w : List State} {order order₀ : List ℕ} {reach old reach' reach'' : Relation} → Fresh n c s → Placed n up k₀ s order₀ reach
+      → Climbing n up c n k true above (set s c Open) w order reach old → RowSet c above old reach'
       → Widened c (λ q. eqb q (n - 1 - k)) reach' reach''
-      → (Placed n up (k + 1) (set w c 2) (set order (n - 1 - k) c) reach'') × (Climbed n up c s (set w c 2) reach reach'')
+      → (Placed n up (k + 1) (set w c Done) (set order (n - 1 - k) c) reach'') × (Climbed n up c s (set w c Done) reach reach'')
+  unfolding number_of
   climbed_placed {w = w} f p₀ was b a =
       let m = climbing_written f.kind (marked f p₀ was) was b in
       let here : c < length w = omega (arith, f.kind, m.placed.long_states) in
-      let two : state (set w c 2) c ≡ 2 = get_or-set_same w c 2 0 here in (
-        placed_more m.placed most f.kind (on_way f.kind (marked f p₀ m) m) (m.fit refl) (gathered_joined b.own m.gathered) a,
-        climbed_so f p₀ m (λ d ne. get_or-set_other w c d 2 0 ne) a.other (omega arith) (λ g. omega arith),
+      let two : state (set w c Done) c ≡ 2 = state_same w c Done here in (
+        placed_more m.placed most f.kind (on_way f.kind (marked f p₀ m) m) (m.fit refl) (gathered_joined (row_same b) m.gathered) a,
+        climbed_so f p₀ m (λ d ne. state_other w c d Done ne) a.other (omega arith) (λ g. omega arith),
       )
 
-  pub climbed : {k k₀ low high : ℕ} {s w order order₀ reach old reach' : List ℕ} → Fresh n c s → Placed n up k₀ s order₀ reach
-      → Climbing n up c n k false low high (set s c 1) w order reach old → Written c low high old reach'
+  pub climbed : {k k₀ : ℕ} {above : KindSet} {s w : List State} {order order₀ : List ℕ} {reach old reach' : Relation} → Fresh n c s → Placed n up k₀ s order₀ reach
+      → Climbing n up c n k false above (set s c Open) w order reach old → RowSet c above old reach'
       → (Placed n up k w order reach') × (Climbed n up c s w reach reach')
   climbed f p₀ was b =
       let m = climbing_written f.kind (marked f p₀ was) was b in
       let one = on_way f.kind (marked f p₀ m) m in
       (m.placed, climbed_so f p₀ m (λ d ne. refl) (λ d q h ne. refl) (omega arith) (λ (g : false ≡ true). absurd (false≢true g)))
-
-pub climbing_at : (p : ℕ) {n : ℕ} {up : ℕ → ℕ → Bool} {c k : ℕ} {good : Bool} {low high : ℕ} {v w order reach reach' : List ℕ} → p < n
-    → Climbing n up c (min p n) k good low high v w order reach reach' → Climbing n up c p k good low high v w order reach reach'
-climbing_at p {n} lt s = let at : min p n ≡ p = omega arith in rw at at s

@@ -2,6 +2,9 @@
 --     count_all, count_one             counts: all pass; one more
 --     Widened, widened                 one row has more, and the others are as they were
 --     joined_kept, joined_own          row c: in rows that are the same where it counts; with a place of its own
+--     state_same, state_other, state_set    the states after a store
+--     same_new, same_done              a state as code tests it, and its number
+--     state_small, all_new             there are three; that of each kind at the start
 --     placed_none                      no kind has a place
 --     placed_row                       the row of a kind on the way is another
 --     placed_visit, placed_more        one kind more is on the way; one more has a place, whose parents all have theirs
@@ -19,10 +22,14 @@ use lib.ListN.{length, get_or, set, replicate, length-set, length-replicate}
 use lib.Seq.{get_or-set_same, get_or-set_other}
 use Rattle.inheritance.specs.Above.{one_if, count}
 use Rattle.inheritance.proofs.AboveLaws.{or_cases, count_same, count_some, count_changed}
+use Rattle.relation.specs.declared.Relation.{Relation}
 use Rattle.relation.specs.Bit.{bit, Blank, Added}
-use Rattle.arranging.specs.Arranged.{state, unplaced, Joined, Placed}
-use Rattle.relation.proofs.Stores.{SetAt, set_at}
-use Rattle.relation.proofs.Zeros.{get_d_zeros}
+use denote.Enum.Bare.{sameb}
+use Rattle.arranging.specs.contracts.State.{the_type}
+use Rattle.arranging.specs.declared.State.{State}
+use Rattle.arranging.specs.declared.State.TheVariants.{New, Open, Done}
+use Rattle.arranging.specs.Arranged.{number_of, state, unplaced, Joined, Placed}
+use Rattle.relation.proofs.Stores.{set_at}
 
 -- ---- lists and counts
 
@@ -37,19 +44,17 @@ count_one f g n c l fc gc same = omega (arith, count_changed f g n c l same, ap 
 -- ---- one row
 
 -- row c has more, and the other rows are as they were
-pub record Widened (c : ℕ) (more : ℕ → Bool) (old new : List ℕ) : Type 0 where
-  pub long : length new ≡ 256
+pub record Widened (c : ℕ) (more : ℕ → Bool) (old new : Relation) : Type 0 where
   pub own : (q : ℕ) → q < 128 → bit new c q ≡ (bit old c q || more q)
   pub other : (d q : ℕ) → q < 128 → d ≢ c → bit new d q ≡ bit old d q
 
-pub widened : (c : ℕ) (more : ℕ → Bool) {old new : List ℕ} → Added old new (λ d q. eqb d c && more q) → Widened c more old new
+pub widened : (c : ℕ) (more : ℕ → Bool) {old new : Relation} → Added old new (λ d q. eqb d c && more q) → Widened c more old new
 widened c more a = record {
-  long = a.long;
   own = λ q h. a.bits c q h ∙ rw (eq-eqb c c refl) refl;
   other = λ d q h ne. a.bits d q h ∙ rw (ne_eqb d c ne, or-false) refl;
 }
 
-module _ {c : ℕ} {more : ℕ → Bool} {old new : List ℕ} (a : Widened c more old new) where
+module _ {c : ℕ} {more : ℕ → Bool} {old new : Relation} (a : Widened c more old new) where
   row_had : (d q : ℕ) → q < 128 → bit old d q ≡ true → bit new d q ≡ true
   row_had d q h e = go (ℕ_discrete d c)
     where
@@ -61,7 +66,7 @@ module _ {c : ℕ} {more : ℕ → Bool} {old new : List ℕ} (a : Widened c mor
   row_gets q h e = a.own q h ∙ rw e (or-true (bit old c q))
 
 module _ {up : ℕ → ℕ → Bool} {c : ℕ} where
-  pub joined_kept : {p : ℕ} {own : ℕ → Type 0} (old new : List ℕ) → ((q : ℕ) → q < 128 → bit new c q ≡ bit old c q)
+  pub joined_kept : {p : ℕ} {own : ℕ → Type 0} (old new : Relation) → ((q : ℕ) → q < 128 → bit new c q ≡ bit old c q)
       → ((x q : ℕ) → x < p → q < 128 → up c x ≡ true → bit new x q ≡ bit old x q) → Joined up old c p own → Joined up new c p own
   joined_kept old new row rows j = record {
     ours = λ q h o. row q h ∙ j.ours q h o;
@@ -69,7 +74,7 @@ module _ {up : ℕ → ℕ → Bool} {c : ℕ} where
     only = λ q h e. ⊎_elim inl (λ w. inr (w.0, w.1, w.2, rows w.0 q w.1 h w.2 ∙ w.3)) (j.only q h (sym (row q h) ∙ e));
   }
 
-  pub joined_own : {p i : ℕ} {old new : List ℕ} → Widened c (λ q. eqb q i) old new → Joined up old c p (λ q. ⊥) → Joined up new c p (λ q. q ≡ i)
+  pub joined_own : {p i : ℕ} {old new : Relation} → Widened c (λ q. eqb q i) old new → Joined up old c p (λ q. ⊥) → Joined up new c p (λ q. q ≡ i)
   joined_own {p} {i} {old} {new} a j = record {
     ours = λ q h o. row_gets a q h (eq-eqb q i o);
     theirs = λ x q l h u e. go x q l h u e (ℕ_discrete x c);
@@ -86,38 +91,80 @@ module _ {up : ℕ → ℕ → Bool} {c : ℕ} where
 
 -- ---- the kinds that have a place
 
-pub unplaced_at : (states : List ℕ) (c x : ℕ) → state states c ≡ x → unplaced states c ≡ not (eqb x 2)
+pub unplaced_at : (states : List State) (c x : ℕ) → state states c ≡ x → unplaced states c ≡ not (eqb x 2)
 unfolding unplaced
 unplaced_at states c x e = ap (λ (y : ℕ). not (eqb y 2)) e
 
-pub apart : (states : List ℕ) (c d : ℕ) → state states d ≢ state states c → d ≢ c
+module _ (states : List State) (c : ℕ) where
+  pub state_same : (x : State) → c < length states → state (set states c x) c ≡ number_of x
+  state_same x lt = ap number_of (get_or-set_same states c x New lt)
+
+  pub state_other : (d : ℕ) (x : State) → d ≢ c → state (set states c x) d ≡ state states d
+  state_other d x ne = ap number_of (get_or-set_other states c d x New ne)
+
+-- the states after a store: that of the kind, and the others
+abbrev pub StateSet : List State → ℕ → State → ℕ → Type 0
+StateSet states c x d = ((d ≡ c) × (state (set states c x) d ≡ number_of x)) ⊎ ((d ≢ c) × (state (set states c x) d ≡ state states d))
+
+pub state_set : (states : List State) (c : ℕ) (x : State) → c < length states → (d : ℕ) → StateSet states c x d
+state_set states c x lt d = go (ℕ_discrete d c)
+  where
+    go : Dec (d ≡ c) → StateSet states c x d
+    go (yes e) = inl (e, ap (state (set states c x)) e ∙ state_same states c x lt)
+    go (no ne) = inr (ne, state_other states c d x ne)
+
+-- a state is a new one, or a done one, as code tests it, where its number is theirs
+pub same_new : (a : State) → sameb the_type a New ≡ eqb (number_of a) 0
+unfolding number_of
+same_new New = refl
+same_new Open = refl
+same_new Done = refl
+
+pub same_done : (a : State) → sameb the_type a Done ≡ eqb (number_of a) 2
+unfolding number_of
+same_done New = refl
+same_done Open = refl
+same_done Done = refl
+
+pub state_small : (states : List State) (c : ℕ) → state states c < 3
+unfolding number_of
+state_small states c = go (get_or states c New)
+  where
+    go : (x : State) → number_of x < 3
+    go New = omega arith
+    go Open = omega arith
+    go Done = omega arith
+
+pub all_new : (k c : ℕ) → state (replicate k New) c ≡ 0
+unfolding number_of
+all_new zero c = refl
+all_new (suc k) zero = refl
+all_new (suc k) (suc c) = all_new k c
+
+pub apart : (states : List State) (c d : ℕ) → state states d ≢ state states c → d ≢ c
 apart states c d ne e = ne (ap (state states) e)
 
--- k is not written as 128, so that `replicate k 0` stays as it is
-pub placed_none : (n : ℕ) (up : ℕ → ℕ → Bool) (k : ℕ) {order reach : List ℕ} → k ≡ 128 → length order ≡ 128 → Blank reach → Placed n up 0 (replicate k 0) order reach
+-- k is not written as 128, so that `replicate k New` stays as it is
+pub placed_none : (n : ℕ) (up : ℕ → ℕ → Bool) (k : ℕ) {order : List ℕ} {reach : Relation} → k ≡ 128 → length order ≡ 128 → Blank reach
+    → Placed n up 0 (replicate k New) order reach
 placed_none n up k e long b = record {
-  long_states = length-replicate k 0 ∙ e;
+  long_states = length-replicate k New ∙ e;
   long_order = long;
-  long_reach = b.long;
-  small = λ c. omega (arith, get_d_zeros k c);
-  left = omega (arith, count_all (unplaced (replicate k 0)) n (λ c l. unplaced_at (replicate k 0) c 0 (get_d_zeros k c)));
+  left = omega (arith, count_all (unplaced (replicate k New)) n (λ c l. unplaced_at (replicate k New) c 0 (all_new k c)));
   kinds = λ i l h. absurd (omega arith);
   once = λ i j l m h. absurd (omega arith);
-  each = λ c l e. absurd (omega (arith, get_d_zeros k c));
+  each = λ c l e. absurd (omega (arith, all_new k c));
   later = λ i p l h. absurd (omega arith);
   places = λ i l h. absurd (omega arith);
   blank = λ c q l h e. b.none c q;
 }
 
-module _ {n : ℕ} {up : ℕ → ℕ → Bool} {k : ℕ} {states order reach : List ℕ} (s : Placed n up k states order reach) where
+module _ {n : ℕ} {up : ℕ → ℕ → Bool} {k : ℕ} {states : List State} {order : List ℕ} {reach : Relation} (s : Placed n up k states order reach) where
   -- a kind that has a place, and the parents of such a kind, are not c
-  pub placed_row : {c : ℕ} {new : List ℕ} → state states c ≡ 1 → length new ≡ 256
-      → ((d q : ℕ) → q < 128 → d ≢ c → bit new d q ≡ bit reach d q) → Placed n up k states order new
-  placed_row {c} {new} way long rows = record {
+  pub placed_row : {c : ℕ} {new : Relation} → state states c ≡ 1 → ((d q : ℕ) → q < 128 → d ≢ c → bit new d q ≡ bit reach d q) → Placed n up k states order new
+  placed_row {c} {new} way rows = record {
     long_states = s.long_states;
     long_order = s.long_order;
-    long_reach = long;
-    small = s.small;
     left = s.left;
     kinds = s.kinds;
     once = s.once;
@@ -141,16 +188,12 @@ module _ {n : ℕ} {up : ℕ → ℕ → Bool} {k : ℕ} {states order reach : L
     within : c < length states
     within = omega (arith, s.long_states)
 
-    small_set : (x : ℕ) → x < 3 → (d : ℕ) → state (set states c x) d < 3
-    small_set x h d = ⊎_elim (λ e. omega (arith, e.1)) (λ e. omega (arith, e.1, s.small d)) (set_at states c x within d)
-
-    pub placed_visit : state states c ≡ 0 → Placed n up k (set states c 1) order reach
+    pub placed_visit : state states c ≡ 0 → Placed n up k (set states c Open) order reach
+    unfolding number_of
     placed_visit new = record {
       long_states = simp length-set s.long_states;
       long_order = s.long_order;
-      long_reach = s.long_reach;
-      small = small_set 1 (omega arith);
-      left = omega (arith, s.left, count_same (unplaced (set states c 1)) (unplaced states) n same);
+      left = omega (arith, s.left, count_same (unplaced (set states c Open)) (unplaced states) n same);
       kinds = λ i l h. let (m, two) = s.kinds i l h in (m, ⊎_elim (λ e. absurd (omega (arith, ap (state states) e.0))) (λ e. e.1 ∙ two) (after (get_or order i 0)));
       once = s.once;
       each = λ d l e. ⊎_elim (λ w. absurd (omega (arith, w.1))) (λ w. s.each d l (sym w.1 ∙ e)) (after d);
@@ -159,34 +202,33 @@ module _ {n : ℕ} {up : ℕ → ℕ → Bool} {k : ℕ} {states order reach : L
       blank = λ d q l h e. ⊎_elim (λ w. absurd (omega (arith, w.1))) (λ w. s.blank d q l h (sym w.1 ∙ e)) (after d);
     }
       where
-        after : (d : ℕ) → SetAt states c 1 d
-        after = set_at states c 1 within
+        after : (d : ℕ) → StateSet states c Open d
+        after = state_set states c Open within
 
-        same : (d : ℕ) → d < n → unplaced (set states c 1) d ≡ unplaced states d
+        same : (d : ℕ) → d < n → unplaced (set states c Open) d ≡ unplaced states d
         same d l =
             ⊎_elim
-            (λ e. unplaced_at (set states c 1) d 1 e.1 ∙ sym (unplaced_at states d 0 (ap (state states) e.0 ∙ new)))
-            (λ e. unplaced_at (set states c 1) d (state states d) e.1 ∙ sym (unplaced_at states d (state states d) refl))
+            (λ e. unplaced_at (set states c Open) d 1 e.1 ∙ sym (unplaced_at states d 0 (ap (state states) e.0 ∙ new)))
+            (λ e. unplaced_at (set states c Open) d (state states d) e.1 ∙ sym (unplaced_at states d (state states d) refl))
             (after d)
 
     -- c is on the way, so some kind has no place
     pub room : state states c ≡ 1 → k < n
     room way = omega (arith, s.left, count_some (unplaced states) n c lt, ap one_if (unplaced_at states c 1 way))
 
-    pub placed_more : {new : List ℕ} → state states c ≡ 1 → ((x : ℕ) → x < n → up c x ≡ true → state states x ≡ 2)
+    pub placed_more : {new : Relation} → state states c ≡ 1 → ((x : ℕ) → x < n → up c x ≡ true → state states x ≡ 2)
         → Joined up reach c n (λ q. ⊥) → Widened c (λ q. eqb q (n - 1 - k)) reach new
-        → Placed n up (k + 1) (set states c 2) (set order (n - 1 - k) c) new
+        → Placed n up (k + 1) (set states c Done) (set order (n - 1 - k) c) new
+    unfolding number_of
     placed_more {new} way parents j a = record {
       long_states = simp length-set s.long_states;
       long_order = simp length-set s.long_order;
-      long_reach = a.long;
-      small = small_set 2 (omega arith);
-      left = omega (arith, s.left, count_one (unplaced (set states c 2)) (unplaced states) n c lt (unplaced_at (set states c 2) c 2 own) (unplaced_at states c 1 way) same);
+      left = omega (arith, s.left, count_one (unplaced (set states c Done)) (unplaced states) n c lt (unplaced_at (set states c Done) c 2 own) (unplaced_at states c 1 way) same);
       kinds = λ i l h.
           ⊎_elim
-          (λ e. subst (λ (x : ℕ). (x < n) × (state (set states c 2) x ≡ 2)) (sym e.1) (lt, own))
+          (λ e. subst (λ (x : ℕ). (x < n) × (state (set states c Done) x ≡ 2)) (sym e.1) (lt, own))
           (λ e. let (m, two) = s.kinds i l e.0 in
-          subst (λ (x : ℕ). (x < n) × (state (set states c 2) x ≡ 2)) (sym e.1) (m, still (get_or order i 0) two))
+          subst (λ (x : ℕ). (x < n) × (state (set states c Done) x ≡ 2)) (sym e.1) (m, still (get_or order i 0) two))
           (at i l h);
       once = λ i i' l l' h h' e. once' i i' l l' e (at i l h) (at i' l' h');
       each = λ d l e.
@@ -211,19 +253,19 @@ module _ {n : ℕ} {up : ℕ → ℕ → Bool} {k : ℕ} {states order reach : L
         last = room way
 
         base : Placed n up k states order new
-        base = placed_row way a.long a.other
+        base = placed_row way a.other
 
         free : n - 1 - k < length order
         free = omega (arith, s.long_order)
 
-        after : (d : ℕ) → SetAt states c 2 d
-        after = set_at states c 2 within
+        after : (d : ℕ) → StateSet states c Done d
+        after = state_set states c Done within
 
-        own : state (set states c 2) c ≡ 2
-        own = get_or-set_same states c 2 0 within
+        own : state (set states c Done) c ≡ 2
+        own = state_same states c Done within
 
-        still : (d : ℕ) → state states d ≡ 2 → state (set states c 2) d ≡ 2
-        still d two = get_or-set_other states c d 2 0 (apart states c d (omega arith)) ∙ two
+        still : (d : ℕ) → state states d ≡ 2 → state (set states c Done) d ≡ 2
+        still d two = state_other states c d Done (apart states c d (omega arith)) ∙ two
 
         kept : (i : ℕ) → n ≤ i + k → get_or (set order (n - 1 - k) c) i 0 ≡ get_or order i 0
         kept i h = get_or-set_other order (n - 1 - k) i c 0 (omega (arith, last))
@@ -240,6 +282,6 @@ module _ {n : ℕ} {up : ℕ → ℕ → Bool} {k : ℕ} {states order reach : L
         once' i i' l l' e (inr w) (inl w') = absurd (omega (arith, way, (s.kinds i l w.0).1, ap (state states) (sym w.1 ∙ e ∙ w'.1)))
         once' i i' l l' e (inr w) (inr w') = s.once i i' l l' w.0 w'.0 (sym w.1 ∙ e ∙ w'.1)
 
-        same : (d : ℕ) → d < n → d ≢ c → unplaced (set states c 2) d ≡ unplaced states d
+        same : (d : ℕ) → d < n → d ≢ c → unplaced (set states c Done) d ≡ unplaced states d
         same d l ne =
-            unplaced_at (set states c 2) d (state states d) (get_or-set_other states c d 2 0 ne) ∙ sym (unplaced_at states d (state states d) refl)
+            unplaced_at (set states c Done) d (state states d) (state_other states c d Done ne) ∙ sym (unplaced_at states d (state states d) refl)

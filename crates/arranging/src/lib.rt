@@ -5,61 +5,66 @@
 ghost use Rattle.std.specs.Prelude.{◌≡◌, ◌&&◌, ◌+◌, ◌-◌, ◌<◌, ◌≤◌, eqb, length, set};
 ghost use Rattle.relation.specs.Bit.{bit, Blank, Added};
 ghost use Rattle.arranging.specs.Arranged.{Arrangement, Placed, Climbed, Fresh};
+ghost use Rattle.arranging.specs.declared.State.TheVariants.{Done};
 
-use relation::{mark, next};
+use relation::{KindSet, Relation};
+
+// How far a kind has come: not visited; on the way; it has a place.
+#[derive(Clone, Copy, Debug, PartialEq, Eq)]
+enum State {
+    New,
+    Open,
+    Done,
+}
 
 // Kind c gets the last place that is free, n - 1 - k where k kinds have theirs.
 fn place(
     n: usize,
     c: usize,
     k: usize,
-    states: &mut [u8; 128],
+    states: &mut [State; 128],
     order: &mut [u8; 128],
-    reach: &mut [u64; 256],
+    reach: &mut Relation,
 ) -> usize
-    requires { (n ≤ 128) × (c < n) × (k < n) × (length reach.old ≡ 256) }
-    ensures { (result ≡ k + 1) × (states.new ≡ set states.old c 2) × (order.new ≡ set order.old (n - 1 - k) c)
+    requires { (n ≤ 128) × (c < n) × (k < n) }
+    ensures { (result ≡ k + 1) × (states.new ≡ set states.old c Done) × (order.new ≡ set order.old (n - 1 - k) c)
         × (Added reach.old reach.new (λ d q. eqb d c && eqb q (n - 1 - k))) }
 {
     let i = n - 1 - k;
-    mark(reach, c, i);
+    reach.insert(c, i);
     order[i] = c as u8;
-    states[c] = 2;
+    states[c] = State::Done;
     k + 1
 }
 
-// Goes up from kind c to each parent that is not visited yet, and so on, and gathers the parents' rows in two words, which
+// Goes up from kind c to each parent that is not visited yet, and so on, and gathers the kinds of the parents' rows, which
 // are then row c; then c gets its place, if all its parents have theirs. How many kinds have one.
 fn climb(
-    rows: &[u64; 256],
+    rows: &Relation,
     n: usize,
     c: usize,
     from: usize,
-    states: &mut [u8; 128],
+    states: &mut [State; 128],
     order: &mut [u8; 128],
-    reach: &mut [u64; 256],
+    reach: &mut Relation,
 ) -> usize
     requires { (n ≤ 128) × (Fresh n c states.old) × (Placed n (bit rows.now) from states.old order.old reach.old) }
     ensures { (Placed n (bit rows.now) result states.new order.new reach.new)
         × (Climbed n (bit rows.now) c states.old states.new reach.old reach.new) }
 {
-    states[c] = 1;
+    states[c] = State::Open;
+    let mut rest = rows.row(c);
     let mut k = from;
     let mut good = true;
-    let mut low = 0u64;
-    let mut high = 0u64;
-    let mut parent = next(rows, c, 0);
-    while parent < n {
-        if states[parent] == 0 {
+    let mut above = KindSet::EMPTY;
+    while let Some(parent) = rest.take_first(n) {
+        if states[parent] == State::New {
             k = climb(rows, n, parent, k, states, order, reach);
         }
-        good = good & (states[parent] == 2);
-        low = low | reach[2 * parent];
-        high = high | reach[2 * parent + 1];
-        parent = next(rows, c, parent + 1);
+        good = good & (states[parent] == State::Done);
+        above = above.union(reach.row(parent));
     }
-    reach[2 * c] = low;
-    reach[2 * c + 1] = high;
+    reach.set_row(c, above);
     if good {
         place(n, c, k, states, order, reach)
     } else {
@@ -69,14 +74,14 @@ fn climb(
 
 // The kinds below n are put in an order in which each stands before its parents, and row c of `reach`, which was blank, gets
 // the places of kind c and of those above it. Whether there is such an order: no kind is above itself.
-pub fn arrange(rows: &[u64; 256], n: usize, order: &mut [u8; 128], reach: &mut [u64; 256]) -> bool
+pub fn arrange(rows: &Relation, n: usize, order: &mut [u8; 128], reach: &mut Relation) -> bool
     requires { (n ≤ 128) × (length order.old ≡ 128) × (Blank reach.old) }
     ensures { Arrangement n rows.now order.new reach.new result }
 {
-    let mut states = [0u8; 128];
+    let mut states = [State::New; 128];
     let mut k = 0;
     for c in 0..n {
-        if states[c] == 0 {
+        if states[c] == State::New {
             k = climb(rows, n, c, k, &mut states, order, reach);
         }
     }

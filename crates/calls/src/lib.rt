@@ -2,49 +2,33 @@
 #![tactic(auto)]
 
 ghost use Rattle.std.specs.Prelude.{◌≡◌};
-ghost use Rattle.tables.specs.Books.{call_of, answered, gives, outcome};
-ghost use Rattle.tables.specs.Tables.{lent};
+ghost use Rattle.books.specs.Lent.{SameBook, tables_of};
+ghost use Rattle.tables.specs.Books.{answer_to, answered, gives, request_of};
 
+use books::Book;
 pub use disputing::parties;
 use edits::make;
 pub use edits::{add_link, add_rule, take_link, take_rule};
 pub use finding::find;
 pub use inspecting::inspect;
 pub use lists::make_list;
-pub use renewing::{open, refresh};
+pub use renewing::{open, refresh, refresh_tables};
 pub use returning::return_to;
 pub use saving::save;
-use tables::{Answer, Call, Request};
+use tables::{Answer, Request};
 
-// The call is carried out on the tables. It is the step of the promise between two books.
-pub fn carry_out(
-    call: Call,
-    links: &mut [u8],
-    rules: &mut [u16],
-    entries: &mut [u16],
-    tally: &mut [u32],
-    disputes: &mut [u16],
-) -> Answer
-    ensures { gives (answered result) (lent links.new rules.new entries.new tally.new disputes.new)
-        ≡ outcome (call_of call) (lent links.old rules.old entries.old tally.old disputes.old) }
+/// A request is carried out on the book. It is the step of the promise between two books.
+pub fn carry_out(book: &mut Book, request: Request) -> Answer
+    ensures same { SameBook book.old book.new }
+    ensures outcome { gives (answered result) (tables_of book.new)
+        ≡ answer_to book.old.n book.old.m (tables_of book.old) (request_of request) }
 {
-    let n = call.n;
-    let m = call.m;
-    let request = call.request;
     match request {
-        Request::Open => Answer::Opened(open(n, m, links, rules, entries, tally, disputes)),
-        Request::Edit(caller, edit) => {
-            Answer::Edited(make(caller, edit, n, m, links, rules, entries, tally, disputes))
-        }
-        Request::Find(kind, mark) => {
-            Answer::Found(find(n, m, links, rules, entries, tally, disputes, kind, mark))
-        }
-        Request::Parties(kind, mark) => {
-            Answer::Paired(parties(n, m, links, rules, entries, tally, disputes, kind, mark))
-        }
-        Request::Inspect => Answer::Inspected(inspect(
-            n, m, links, rules, entries, tally, disputes,
-        )),
-        Request::Refresh => Answer::Edited(refresh(n, m, links, rules, entries, tally, disputes)),
+        Request::Open => Answer::Opened(open(book)),
+        Request::Edit(caller, change) => Answer::Edited(make(book, caller, change)),
+        Request::Find(kind, mark) => Answer::Found(find(&book.read(), kind, mark)),
+        Request::Parties(kind, mark) => Answer::Paired(parties(&book.read(), kind, mark)),
+        Request::Inspect => Answer::Inspected(inspect(&book.read())),
+        Request::Refresh => Answer::Edited(refresh(book)),
     }
 }

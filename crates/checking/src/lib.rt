@@ -2,10 +2,10 @@
 // in the same pass the dispute entries are counted.
 #![tactic(auto)]
 
-ghost use Rattle.std.specs.Prelude.{◌≡◌, ◌+◌, ◌*◌, ◌<◌, ◌≤◌, eqb, get_or, length, replicate};
+ghost use Rattle.std.specs.Prelude.{◌≡◌, ◌↔◌, ◌+◌, ◌*◌, ◌<◌, ◌≤◌, IsTrue, drop, get_or, length, replicate, take};
 ghost use Rattle.relation.specs.Bit.{bit};
 ghost use Rattle.tables.specs.Step.{kind_right, right};
-ghost use Rattle.tables.specs.Tables.{all_below, disputes_of, Sized};
+ghost use Rattle.tables.specs.Tables.{disputes_of, Sized};
 ghost use Rattle.deciding.specs.Deciding.{Prepared};
 ghost use Rattle.merging.specs.Merged.{merged, given};
 ghost use Rattle.checking.specs.Checked.{Checked};
@@ -13,18 +13,14 @@ ghost use Rattle.checking.specs.Checked.{Checked};
 use counting::count_entry;
 use deciding::decide_row;
 use merging::{merge, merge_parents, own};
-use relation::next;
+use relation::Relation;
 
 // Whether the entries of kind c are those of the row.
 fn row_right(m: usize, entries: &[u16], c: usize, out: &[u16; 64]) -> bool
     requires { (m ≤ 64) × (c * m + m ≤ length entries.now) }
-    ensures { result ≡ all_below (λ j. eqb (get_or entries.now (c * m + j) 0) (get_or out.now j 0)) m }
+    ensures { IsTrue result ↔ (take m (drop (c * m) entries.now) ≡ take m out.now) }
 {
-    let mut same = true;
-    for j in 0..m {
-        same = same & (entries[c * m + j] == out[j]);
-    }
-    same
+    entries[c * m..c * m + m] == out[..m]
 }
 
 // The entries that kind c would have by its own rules and two rows that its parents give, x from i on and y from k on.
@@ -61,7 +57,7 @@ fn check(
 // The same for what all the parents of kind c give it. Of one parent or two the rows are taken where they stand, which most
 // kinds have; the row of one parent, or of all merged, is given twice, since a row merged with itself is that row.
 fn check_row(
-    rows: &[u64; 256],
+    rows: &Relation,
     n: usize,
     m: usize,
     rules: &[u16],
@@ -74,10 +70,9 @@ fn check_row(
     ensures { (Checked m c rules.now entries.now (given m (bit rows.now) entries.now c n) out.new result)
         × (counts.new ≡ disputes_of (c + 1) m entries.now) }
 {
-    let first = next(rows, c, 0);
-    if first < n {
-        let second = next(rows, c, first + 1);
-        if second >= n {
+    let mut rest = rows.row(c);
+    if let Some(first) = rest.take_first(n) {
+        let Some(second) = rest.take_first(n) else {
             return check(
                 c,
                 m,
@@ -90,8 +85,8 @@ fn check_row(
                 out,
                 counts,
             );
-        }
-        if next(rows, c, second + 1) >= n {
+        };
+        if rest.take_first(n).is_none() {
             return check(
                 c,
                 m,
@@ -114,10 +109,10 @@ fn check_row(
 // Whether the entries of kind c are what its own rules, its parents' entries and the kinds left give. Its dispute entries are
 // counted in.
 fn kind_right(
-    rows: &[u64; 256],
+    rows: &Relation,
     order: &[u8; 128],
-    reach: &[u64; 256],
-    ruled: &[u64; 256],
+    reach: &Relation,
+    ruled: &Relation,
     n: usize,
     m: usize,
     rules: &[u16],
@@ -141,10 +136,10 @@ fn kind_right(
 // Whether every entry is what its kind's own rules, its parents' entries and the kinds left give. The counts, which are 0, become
 // those of the dispute entries.
 pub fn entries_right(
-    rows: &[u64; 256],
+    rows: &Relation,
     order: &[u8; 128],
-    reach: &[u64; 256],
-    ruled: &[u64; 256],
+    reach: &Relation,
+    ruled: &Relation,
     n: usize,
     m: usize,
     rules: &[u16],

@@ -1,38 +1,27 @@
 // Tables copied into tables, and how many numbers of two tables differ.
 #![tactic(auto)]
 
-ghost use Rattle.std.specs.Prelude.{◌≡◌, ◌+◌, ◌≤◌, length};
-ghost use Rattle.std.proofs.Math.Seq.{paste};
+ghost use Rattle.std.specs.Prelude.{◌≡◌, ◌+◌, ◌≤◌, ◌++◌, drop, length, take};
 ghost use Rattle.tables.specs.Tables.{differing};
 
-// Every byte of a table, in order, becomes one of another from a place on.
-pub fn copy_bytes(from: &[u8], to: &mut [u8], at: usize)
+/// Every element of a table, in order, becomes one of another from a place on.
+pub fn copy_at<T: Copy>(from: &[T], to: &mut [T], at: usize)
     requires { at + length from.now ≤ length to.old }
-    ensures { to.new ≡ paste to.old at from.now (length from.now) }
+    ensures { to.new ≡ take at to.old ++ from.now ++ drop (at + length from.now) to.old }
 {
-    for i in 0..from.len() {
-        to[at + i] = from[i];
-    }
+    let end = at + from.len();
+    to[at..end].copy_from_slice(from);
 }
 
-// Every number of 16 bits of a table, likewise.
-pub fn copy_numbers(from: &[u16], to: &mut [u16], at: usize)
-    requires { at + length from.now ≤ length to.old }
-    ensures { to.new ≡ paste to.old at from.now (length from.now) }
-{
-    for j in 0..from.len() {
-        to[at + j] = from[j];
-    }
-}
-
-// At how many places two tables of entries differ.
+/// At how many places two tables of entries differ.
+#[tactic(auto, unfolding(tables::specs::Tables::differing))]
 pub fn count_differing(old: &[u16], new: &[u16]) -> u16
     requires { (length old.now ≡ length new.now) × (length old.now ≤ 8192) }
     ensures { result ≡ differing old.now new.now }
 {
     let mut count = 0;
-    for i in 0..old.len() {
-        count += (old[i] != new[i]) as u16;
+    for (was, is) in old.iter().zip(new) {
+        count += u16::from(was != is);
     }
     count
 }

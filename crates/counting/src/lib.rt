@@ -1,7 +1,7 @@
 // Dispute counts: how many entries of each mark are disputes, counted kind by kind, and kept where an entry changes.
 #![tactic(auto)]
 
-ghost use Rattle.std.specs.Prelude.{◌≡◌, ◌+◌, ◌*◌, ◌<◌, ◌≤◌, get_or, length, replicate, set};
+ghost use Rattle.std.specs.Prelude.{◌≡◌, ◌+◌, ◌*◌, ◌<◌, ◌≤◌, get_or, length, set};
 ghost use Rattle.inheritance.specs.Above.{one_if};
 ghost use Rattle.tables.specs.Tables.{is_dispute, disputes_of};
 ghost use Rattle.counting.specs.Counting.{counted_in, counted_anew};
@@ -10,7 +10,7 @@ ghost use Rattle.counting.specs.Counting.{counted_in, counted_anew};
 fn dispute(entry: u16) -> u16
     ensures { (result ≡ one_if (is_dispute entry)) × (result ≤ 1) }
 {
-    (entry >= 257) as u16
+    u16::from(entry >= 257)
 }
 
 // One more entry of mark j is counted in.
@@ -39,21 +39,12 @@ fn count_row(m: usize, entries: &[u16], c: usize, counts: &mut [u16])
     }
 }
 
-// Every number of 16 bits of a table becomes 0.
-pub fn clear(numbers: &mut [u16])
-    ensures { numbers.new ≡ replicate (length numbers.old) 0 }
-{
-    for i in 0..numbers.len() {
-        numbers[i] = 0;
-    }
-}
-
 // The counts become those of the entries, whatever they were.
 pub fn count_disputes(n: usize, m: usize, entries: &[u16], counts: &mut [u16])
     requires { (n ≤ 128) × (length entries.now ≡ n * m) × (length counts.old ≡ m) }
     ensures { counts.new ≡ disputes_of n m entries.now }
 {
-    clear(counts);
+    counts.fill(0);
     for c in 0..n {
         count_row(m, entries, c, counts);
     }

@@ -12,7 +12,7 @@ use borrow.Author.Tests.{eq-eqb, ne_eqb, eqb-false, not-true}
 use lib.Dec.{eqb}
 use lib.ListN.{get_or}
 use Rattle.inheritance.specs.declared.Lookup.{Lookup}
-use Rattle.tables.specs.Entry.{entry_of}
+use Rattle.inheritance.specs.Entry.{entry_of}
 use Rattle.tables.specs.Tables.{all_below}
 use Rattle.tables.proofs.TableLaws.{below_true}
 use Rattle.deciding.specs.Deciding.{apart}

@@ -1,7 +1,8 @@
 -- What the kinds left decide, by the first of the places and whether its row covers them all.
 --     deciding_none, deciding_some     `deciding` as the code goes: there is no first place, and there is one
 --     first_held, deciding_fits        at the first place there is a kind; the entry of what is decided has 16 bits
---     words_common, words_held         two words that have the common places as bits; their places are those of kinds
+--     places_common, places_held       a set that has the common places; these are those of kinds
+--     places_first, places_covered     .. its first place, and whether a row of reach has them all
 --     arranged_acyclic       where the kinds are arranged, no kind is above itself
 --     reach_upto, place_in   row c of reach has the place of a kind just where that is c or above it; every place that it has is one below n
 --     held                   the places that a row of reach has are those of kinds
@@ -9,13 +10,13 @@
 -- Assumes nothing.
 use mathlib.Core.Path.{◌≡◌, refl, sym, ◌∙◌, ap, ap₂, subst}
 use mathlib.Core.Logic.{◌≢◌, inl, inr, ⊎_elim, ◌↔◌, by_cases}
-use mathlib.Core.Bool.{Bool, true, false, ◌&&◌, not, true≢false, and-eq-true_iff, or-true, not-eq-not}
-use mathlib.Core.List.{List, [], ◌∷◌}
-use Prim.Native.Nat.{ℕ, ◌+◌, ◌*◌, ◌<◌, ◌≤◌}
+use mathlib.Core.Bool.{Bool, true, false, not, true≢false, and-eq-true_iff, or-true, not-eq-not}
+use mathlib.Core.List.{List}
+use Prim.Native.Nat.{ℕ, ◌<◌, ◌≤◌}
 use native.Mathlib.Decide.{dec_lt}
 use native.Mathlib.Omega.{arith}
 use borrow.Author.Tests.{eqb-true, eq-eqb, lt-ltb, le-ltb, ltb-true, ltb-false, not-true}
-use lib.Bits.{bit_and}
+use Rattle.std.proofs.Common.{IsTrue}
 use lib.Dec.{eqb, ltb}
 use lib.ListN.{get_or}
 use Rattle.inheritance.specs.declared.Lookup.{Lookup}
@@ -23,18 +24,20 @@ use Rattle.inheritance.specs.declared.Lookup.TheVariants.{None, Rule, Dispute}
 use Rattle.inheritance.specs.Above.{Chain, Upto, above, Acyclic}
 use Rattle.inheritance.specs.Checked.{kind}
 use Rattle.inheritance.specs.Lookup.{some_below, left, passing, decided}
+use Rattle.inheritance.proofs.Bools.{same_bool}
 use Rattle.inheritance.proofs.AboveLaws.{or_cases, above_chain, chain_above}
 use Rattle.inheritance.proofs.LeftLaws.{some_true, true_some}
 use Rattle.inheritance.proofs.NearLaws.{Near, near_none, near_one, near_two}
 use Rattle.arranging.specs.Arranged.{Arranged}
-use Rattle.relation.specs.Bit.{bit}
+use Rattle.relation.specs.declared.KindSet.{KindSet}
+use Rattle.relation.specs.declared.Relation.{Relation}
+use Rattle.relation.specs.Bit.{bit, holds, row_of, Shared, Within}
 use Rattle.relation.specs.First.{First}
-use Rattle.relation.proofs.BitLaws.{on_and}
-use Rattle.tables.specs.Entry.{entry_of}
+use Rattle.inheritance.specs.Entry.{entry_of}
 use Rattle.tables.specs.Tables.{own_of}
-use Rattle.deciding.specs.Deciding.{Held, Words, common, outside, covered, first_below, decision, deciding}
+use Rattle.deciding.specs.Deciding.{Held, Places, common, outside, covered, first_below, decision, deciding}
 use Rattle.ruling.specs.Ruling.{Ruled}
-use Rattle.deciding.proofs.Places.{below_first, first_is, two_words}
+use Rattle.deciding.proofs.Places.{first_same, below_first, first_is}
 
 -- ---- as the code goes
 
@@ -42,7 +45,7 @@ use Rattle.deciding.proofs.Places.{below_first, first_is, two_words}
 pub first_held : (order : List ℕ) (f : ℕ → Bool) {i : ℕ} → First f 0 128 i → ((p : ℕ) → p < 128 → f p ≡ true → get_or order p 0 < 128) → i ≢ 128 → get_or order i 0 < 128
 first_held order f {i} first holds ne = let l : i < 128 = omega (arith, first.high) in holds i l (first.found l)
 
-module _ (order reach ruled : List ℕ) (c j : ℕ) where
+module _ (order : List ℕ) (reach ruled : Relation) (c j : ℕ) where
   -- i is the first common place
   module _ {i : ℕ} (first : First (common reach ruled c j) 0 128 i) where
     at_first : decision c i (get_or order i 0) (covered reach ruled c j (get_or order i 0)) ≡ deciding order reach ruled c j
@@ -62,7 +65,7 @@ module _ (order reach ruled : List ℕ) (c j : ℕ) where
         cases : Bool → Bool → Lookup
         cases t s = elim t [ true ↦ elim s [ true ↦ Rule (kind (get_or order i 0)) | false ↦ Dispute (kind c) ] | false ↦ None ]
 
-  pub deciding_fits : c < 128 → Held order reach c → entry_of (deciding order reach ruled c j) < 65536
+  pub deciding_fits : c < 128 → Held order (bit reach c) → entry_of (deciding order reach ruled c j) < 65536
   unfolding deciding
   deciding_fits h holds = by_place (ltb i 128) refl (covered reach ruled c j (get_or order i 0))
     where
@@ -77,18 +80,43 @@ module _ (order reach ruled : List ℕ) (c j : ℕ) where
           let l = ltb-true i 128 e in
           omega (arith, first_held order _ (below_first (common reach ruled c j) 128) (λ p h q. holds p h ((and-eq-true_iff (bit reach c p) _).0 q).0) (λ q. omega arith))
 
-module _ (reach ruled : List ℕ) (c j : ℕ) where
-  -- row c of reach and row j of ruled, put together word by word
-  pub words_common : Words (bit_and (get_or reach (2 * c) 0) (get_or ruled (2 * j) 0)) (bit_and (get_or reach (2 * c + 1) 0) (get_or ruled (2 * j + 1) 0)) reach ruled c j
-  words_common i h = two_words bit_and ◌&&◌ on_and reach c ruled j i h
+module _ (reach ruled : Relation) (c j : ℕ) (near : KindSet) where
+  -- what row c of reach and row j of ruled both have
+  pub places_common : {s t : KindSet} → s ≡ row_of reach c → t ≡ row_of ruled j → Shared s t near → Places near reach ruled c j
+  unfolding bit
+  places_common is is' both i h = both.each i h ∙ rw (is, is') refl
 
-  pub words_held : (order : List ℕ) → Held order reach c
-      → Held order (bit_and (get_or reach (2 * c) 0) (get_or ruled (2 * j) 0) ∷ bit_and (get_or reach (2 * c + 1) 0) (get_or ruled (2 * j + 1) 0) ∷ []) 0
-  words_held order holds i h e = holds i h ((and-eq-true_iff (bit reach c i) _).0 (sym (words_common i h) ∙ e)).0
+  module _ (places : Places near reach ruled c j) where
+    pub places_held : (order : List ℕ) → Held order (bit reach c) → Held order (holds near)
+    places_held order held i h e = held i h ((and-eq-true_iff (bit reach c i) _).0 (sym (places i h) ∙ e)).0
+
+    pub places_first : {i : ℕ} → First (holds near) 0 128 i → First (common reach ruled c j) 0 128 i
+    places_first = first_same (holds near) (common reach ruled c j) places
+
+    within_all : (o : ℕ) → Within near (row_of reach o) → some_below (outside reach ruled c j o) 128 ≡ false
+    unfolding bit
+    within_all o within = (not-eq-not {b = false}).0 λ e.
+        let (i, h, t) = some_true (outside reach ruled c j o) 128 e in
+        let (is, out) = (and-eq-true_iff (common reach ruled c j i) _).0 t in
+        true≢false (sym (within i h (places i h ∙ is)) ∙ not-true _ out)
+
+    all_within : (o : ℕ) → some_below (outside reach ruled c j o) 128 ≡ false → Within near (row_of reach o)
+    unfolding bit
+    all_within o none i h there = by_bit (bit reach o i) refl
+      where
+        by_bit : (t : Bool) → bit reach o i ≡ t → bit reach o i ≡ true
+        by_bit true e = e
+        by_bit false e =
+            absurd (true≢false (sym (true_some (outside reach ruled c j o) 128 i h ((and-eq-true_iff (common reach ruled c j i) _).1 (sym (places i h) ∙ there, ap not e))) ∙ none))
+
+    pub places_covered : (o : ℕ) {row : KindSet} {b : Bool} → row ≡ row_of reach o → IsTrue b ↔ Within near row → b ≡ covered reach ruled c j o
+    unfolding covered
+    places_covered o {row} {b} at is =
+        same_bool b _ (λ e. ap not (within_all o (subst (Within near) at (is.0 e)))) (λ e. is.1 (subst (Within near) (sym at) (all_within o (not-true _ e))))
 
 -- ---- what it means
 
-module _ (n : ℕ) (rows order reach : List ℕ) (a : Arranged n rows order reach) where
+module _ (n : ℕ) (rows : Relation) (order : List ℕ) (reach : Relation) (a : Arranged n rows order reach) where
   abbrev at : ℕ → ℕ
   at i = get_or order i 0
 
@@ -107,10 +135,10 @@ module _ (n : ℕ) (rows order reach : List ℕ) (a : Arranged n rows order reac
   pub place_in : (c i : ℕ) → c < n → i < 128 → bit reach c i ≡ true → i < n
   place_in c i h l e = by_cases (dec_lt i n) (λ less. less) (λ more. absurd (true≢false (sym e ∙ a.beyond c i h (omega arith) l)))
 
-  pub held : n ≤ 128 → (c : ℕ) → c < n → Held order reach c
+  pub held : n ≤ 128 → (c : ℕ) → c < n → Held order (bit reach c)
   held most c h i l e = let k = a.kinds i (place_in c i h l e) in omega arith
 
-  module _ (m : ℕ) (rules ruled : List ℕ) (r : Ruled n m rules order ruled) (most : n ≤ 128) (c j : ℕ) (c<n : c < n) (j<m : j < m) where
+  module _ (m : ℕ) (rules : List ℕ) (ruled : Relation) (r : Ruled n m rules order ruled) (most : n ≤ 128) (c j : ℕ) (c<n : c < n) (j<m : j < m) where
     abbrev own : ℕ → Bool
     own = own_of m rules j
 

@@ -1,5 +1,5 @@
 -- What is prepared for a book, as an edit of a rule reads it and keeps it.
---     kind_place                     the first place in row c of reach is that of kind c
+--     kind_place, place_found        the first place in row c of reach is that of kind c, and a search along the row finds it
 --     own_kept                       the own rule of kind e for a mark is set: the others stay
 --     prepared_set                   .. and the place of e is put into the row of the mark, or taken out of it: what is prepared is so for the new rules
 -- Assumes nothing.
@@ -17,16 +17,19 @@ use lib.ListN.{length, get_or, set}
 use lib.Seq.{get_or-set_same, get_or-set_other}
 use Rattle.inheritance.specs.Above.{above}
 use Rattle.inheritance.proofs.AboveLaws.{chain_above}
+use Rattle.std.specs.Prelude.{Option, Some, None}
+use Rattle.std.specs.Option.{IsSome}
 use Rattle.arranging.specs.Arranged.{Arranged}
-use Rattle.relation.specs.Bit.{bit}
-use Rattle.relation.specs.First.{First}
+use Rattle.relation.specs.declared.Relation.{Relation}
+use Rattle.relation.specs.Bit.{bit, holds, row_of}
+use Rattle.relation.specs.First.{First, Found}
 use Rattle.relation.proofs.Bools.{both_eqb}
 use Rattle.tables.specs.Tables.{own_of}
 use Rattle.tables.proofs.TableLaws.{place_split}
 use Rattle.deciding.specs.Deciding.{Prepared}
 use Rattle.deciding.proofs.DecidingLaws.{reach_upto, place_in}
 
-pub kind_place : (n : ℕ) (rows order reach : List ℕ) → Arranged n rows order reach → n ≤ 128 → (c : ℕ) → c < n → {i : ℕ} → First (bit reach c) 0 128 i
+pub kind_place : (n : ℕ) (rows : Relation) (order : List ℕ) (reach : Relation) → Arranged n rows order reach → n ≤ 128 → (c : ℕ) → c < n → {i : ℕ} → First (bit reach c) 0 128 i
     → (i < n) × (get_or order i 0 ≡ c)
 kind_place n rows order reach a most c h {i} first =
     let (k, l, e) = a.each c h in
@@ -39,6 +42,16 @@ kind_place n rows order reach a most c h {i} first =
           ((reach_upto n rows order reach a c i h i<n).0 (first.found (omega arith))),
     )
 
+-- .. so a search along its row finds it
+pub place_found : (n : ℕ) (rows : Relation) (order : List ℕ) (reach : Relation) → Arranged n rows order reach → n ≤ 128 → (c : ℕ) → c < n → (answer : Option ℕ)
+    → Found (holds (row_of reach c)) 0 128 answer → IsSome answer × ((i : ℕ) → answer ≡ Some i → First (bit reach c) 0 128 i)
+unfolding bit
+place_found n rows order reach a most c h None none =
+    let (k, l, e) = a.each c h in
+    let there : bit reach c k ≡ true = (reach_upto n rows order reach a c k h l).1 (inl (sym e)) in
+    absurd (true≢false (sym there ∙ none.none k (omega arith) (omega arith)))
+place_found n rows order reach a most c h (Some k) found = (refl, λ i e. let same : k ≡ i = cc in rw (← same) found.0)
+
 module _ (m : ℕ) (rules : List ℕ) (e mark handling : ℕ) (mark-in : mark < m) where
   pub own_kept : (j c : ℕ) → j < m → (c ≢ e) ⊎ (j ≢ mark) → own_of m rules j c ≡ own_of m (set rules (e * m + mark) handling) j c
   own_kept j c hj apart = ap (λ (x : ℕ). not (eqb x 0)) (sym (get_or-set_other rules (e * m + mark) (c * m + j) handling 0 elsewhere))
@@ -47,7 +60,7 @@ module _ (m : ℕ) (rules : List ℕ) (e mark handling : ℕ) (mark-in : mark < 
       elsewhere q = let same = place_split {k = c} {k' = e} hj mark-in q in ⊎_elim (λ ne. ne same.0) (λ ne. ne same.1) apart
 
   -- i is the place of e
-  module _ (n : ℕ) (size : length rules ≡ n * m) (rows order reach ruled new : List ℕ) (i : ℕ) (i<n : i < n) (at_i : get_or order i 0 ≡ e) (p : Prepared n m rows rules order reach ruled) where
+  module _ (n : ℕ) (size : length rules ≡ n * m) (rows : Relation) (order : List ℕ) (reach ruled new : Relation) (i : ℕ) (i<n : i < n) (at_i : get_or order i 0 ≡ e) (p : Prepared n m rows rules order reach ruled) where
     abbrev rules' : List ℕ
     rules' = set rules (e * m + mark) handling
 
@@ -75,8 +88,8 @@ module _ (m : ℕ) (rules : List ℕ) (e mark handling : ℕ) (mark-in : mark < 
 
     -- whatever happens to that bit alone
     pub prepared_set : (f : Bool → Bool → Bool) → ((b : Bool) → f b false ≡ b) → ((b : Bool) → f b true ≡ not (eqb handling 0))
-        → length new ≡ 256 → ((d q : ℕ) → q < 128 → bit new d q ≡ f (bit ruled d q) (eqb d mark && eqb q i)) → Prepared n m rows rules' order reach new
-    prepared_set f keeps sets long bits = record { arranged = p.arranged; rule_kinds = record { long = long; bits = λ j q h. bits j q h ∙ go j q h (eqb j mark && eqb q i) refl } }
+        → ((d q : ℕ) → q < 128 → bit new d q ≡ f (bit ruled d q) (eqb d mark && eqb q i)) → Prepared n m rows rules' order reach new
+    prepared_set f keeps sets bits = record { arranged = p.arranged; rule_kinds = record { bits = λ j q h. bits j q h ∙ go j q h (eqb j mark && eqb q i) refl } }
       where
         go : (j q : ℕ) → q < 128 → (t : Bool) → (eqb j mark && eqb q i) ≡ t → f (bit ruled j q) t ≡ (ltb q n && (ltb j m && own_of m rules' j (get_or order q 0)))
         go j q h false e = keeps (bit ruled j q) ∙ p.rule_kinds.bits j q h ∙ kept j q e

@@ -2,76 +2,52 @@
 // places of kind c and of the kinds above it, and row j of ruled those of the rule kinds of mark j.
 #![tactic(auto)]
 
-ghost use Rattle.std.specs.Prelude.{◌≡◌, not, List, [], ◌∷◌, ℕ, ◌+◌, ◌<◌, ◌≤◌, eqb, get_or, length};
-ghost use Rattle.relation.specs.Bit.{bit};
-ghost use Rattle.relation.specs.First.{First};
+ghost use Rattle.std.specs.Prelude.{◌≡◌, not, ℕ, ◌+◌, ◌<◌, ◌≤◌, eqb, get_or, length};
+ghost use Rattle.relation.specs.declared.Relation.{Relation};
+ghost use Rattle.relation.specs.Bit.{bit, holds};
 ghost use Rattle.tables.specs.Tables.{all_below};
-ghost use Rattle.deciding.specs.Deciding.{Held, Words, covered, deciding, apart};
+ghost use Rattle.deciding.specs.Deciding.{Held, Places, deciding, apart};
 ghost use Rattle.deciding.specs.Row.{Row, Changed};
 
 use inheritance::{Kind, Lookup};
-use tables::encode;
+use relation::{KindSet, Relation};
 
-// The first bit of two words, the low one first; 128 where there is none.
-fn first_of(low: u64, high: u64) -> usize
-    ensures { First (bit (low ∷ high ∷ []) 0) 0 128 result }
+// The lookup of kind c where its parents differ. The set has the places of the rule kinds at or above c. The first of them is
+// left. It is left alone if all the others are above it.
+fn decide(order: &[u8; 128], reach: &Relation, c: usize, near: KindSet) -> Lookup
+    requires { (c < 128) × (Held order.now (holds near)) }
+    ensures { (ruled : Relation) (j : ℕ) → Places near reach.now ruled c j → result ≡ deciding order.now reach.now ruled c j }
 {
-    let zeros = u64::trailing_zeros(low) as usize;
-    if zeros < 64 {
-        zeros
-    } else {
-        64 + u64::trailing_zeros(high) as usize
-    }
-}
-
-// Whether row o of reach has every place that is a bit of the two words, the low one first.
-fn covers(reach: &[u64; 256], o: usize, near: u64, far: u64) -> bool
-    requires { o < 128 }
-    ensures { (ruled : List ℕ) (c j : ℕ) → Words near far reach.now ruled c j → result ≡ covered reach.now ruled c j o }
-{
-    let low = reach[2 * o];
-    let high = reach[2 * o + 1];
-    let more_low = (near | low) ^ low;
-    let more_high = (far | high) ^ high;
-    first_of(more_low, more_high) == 128
-}
-
-// The lookup of kind c where its parents differ. The bits of the two words, the low one first, are the places of the rule
-// kinds at or above c. The first of them is left. It is left alone if all the others are above it.
-fn decide(order: &[u8; 128], reach: &[u64; 256], c: usize, near: u64, far: u64) -> Lookup
-    requires { (c < 128) × (Held order.now (near ∷ far ∷ []) 0) }
-    ensures { (ruled : List ℕ) (j : ℕ) → Words near far reach.now ruled c j → result ≡ deciding order.now reach.now ruled c j }
-{
-    let i = first_of(near, far);
-    if i == 128 {
-        return Lookup::None;
-    }
-    let o = order[i] as usize;
-    if covers(reach, o, near, far) {
-        Lookup::Rule(Kind(o as u16))
-    } else {
-        Lookup::Dispute(Kind(c as u16))
+    match near.first(0, 128) {
+        None => Lookup::None,
+        Some(i) => {
+            let o = order[i] as usize;
+            if near.is_subset(reach.row(o)) {
+                Lookup::Rule(Kind(o as u16))
+            } else {
+                Lookup::Dispute(Kind(c as u16))
+            }
+        }
     }
 }
 
 // The entry e of kind c for mark j alone, decided where it says that the parents differ.
 pub fn decide_entry(
     order: &[u8; 128],
-    reach: &[u64; 256],
-    ruled: &[u64; 256],
+    reach: &Relation,
+    ruled: &Relation,
     c: usize,
     j: usize,
     e: u16,
 ) -> u16
-    requires { (c < 128) × (j < 64) × (Held order.now reach.now c) }
+    requires { (c < 128) × (j < 64) × (Held order.now (bit reach.now c)) }
     ensures { result ≡ apart c e (deciding order.now reach.now ruled.now c j) }
 {
     if e != 257 + c as u16 {
         return e;
     }
-    let near = reach[2 * c] & ruled[2 * j];
-    let far = reach[2 * c + 1] & ruled[2 * j + 1];
-    encode(decide(order, reach, c, near, far))
+    let near = reach.row(c).intersection(ruled.row(j));
+    decide(order, reach, c, near).entry()
 }
 
 // Whether none of the eight entries from `from` on says that the parents of kind c differ. The eight are looked at at once.
@@ -90,23 +66,21 @@ fn eight_agreed(from: usize, c: usize, out: &[u16; 64]) -> bool
 // The eight entries from `from` on are decided where the parents of kind c differ.
 fn decide_eight(
     order: &[u8; 128],
-    reach: &[u64; 256],
-    ruled: &[u64; 256],
+    reach: &Relation,
+    ruled: &Relation,
     from: usize,
     c: usize,
     out: &mut [u16; 64],
 )
-    requires { (c < 128) × (from + 8 ≤ 64) × (length out.old ≡ 64) × (Held order.now reach.now c) }
+    requires { (c < 128) × (from + 8 ≤ 64) × (length out.old ≡ 64) × (Held order.now (bit reach.now c)) }
     ensures { Changed from (from + 8) (λ j e. apart c e (deciding order.now reach.now ruled.now c j)) out.old out.new }
 {
-    let low = reach[2 * c];
-    let high = reach[2 * c + 1];
+    let reached = reach.row(c);
     let apart = 257 + c as u16;
     for j in from..from + 8 {
         if out[j] == apart {
-            let near = low & ruled[2 * j];
-            let far = high & ruled[2 * j + 1];
-            out[j] = encode(decide(order, reach, c, near, far));
+            let near = reached.intersection(ruled.row(j));
+            out[j] = decide(order, reach, c, near).entry();
         }
     }
 }
@@ -115,14 +89,14 @@ fn decide_eight(
 // entry is passed over. The first and the last group may have marks that are not from lo to below hi; those do not count.
 pub fn decide_row(
     order: &[u8; 128],
-    reach: &[u64; 256],
-    ruled: &[u64; 256],
+    reach: &Relation,
+    ruled: &Relation,
     lo: usize,
     hi: usize,
     c: usize,
     out: &mut [u16; 64],
 )
-    requires { (c < 128) × (lo ≤ hi) × (hi ≤ 64) × (length out.old ≡ 64) × (Held order.now reach.now c) }
+    requires { (c < 128) × (lo ≤ hi) × (hi ≤ 64) × (length out.old ≡ 64) × (Held order.now (bit reach.now c)) }
     ensures { Row lo hi (λ j. apart c (get_or out.old j 0) (deciding order.now reach.now ruled.now c j)) out.new }
 {
     for q in lo / 8..(hi + 7) / 8 {

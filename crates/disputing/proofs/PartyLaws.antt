@@ -7,23 +7,23 @@ use mathlib.Core.Bool.{true, false}
 use Prim.Native.Nat.{ℕ, ◌+◌, ◌*◌, ◌<◌, ◌≤◌}
 use borrow.Author.Tests.{le-leb, lt-leb}
 use lib.ListN.{get_or}
+use Rattle.std.specs.Prelude.{Result}
 use Rattle.inheritance.specs.declared.Kind.{Kind}
 use Rattle.inheritance.specs.declared.Mark.{Mark}
 use Rattle.tables.specs.declared.Refusal.{Refusal}
-use Rattle.asking.specs.declared.Asked.{Asked}
-use Rattle.asking.specs.Ask.{checked}
+use Rattle.books.specs.Ask.{checked}
 use Rattle.tables.specs.Calls.{Outcome, check, kinds_left, lowest_two, parties}
 use Rattle.tables.specs.Reply.{Reply, refused, given, TwoKinds, refusal_number}
 use Rattle.tables.specs.Tables.{Tables, sound}
-use Rattle.asking.proofs.AskLaws.{place_passes, place_refuses, place_is}
+use Rattle.books.proofs.AskLaws.{place_passes, place_refuses, place_is}
 use Rattle.disputing.specs.Parties.{parties_at}
 
 module _ (n m : ℕ) (t : Tables) (c i : ℕ) where
-  pub parties_refused : {why : Refusal} → checked n m t c i ≡ Asked.Refused why → refused (refusal_number why) ≡ (parties n m t c i).reply
+  pub parties_refused : {why : Refusal} → checked n m t c i ≡ Result.Err why → refused (refusal_number why) ≡ (parties n m t c i).reply
   unfolding parties
   parties_refused e = sym (ap (λ (o : Outcome TwoKinds). o.reply) (place_refuses n m t c i _ e))
 
-  pub parties_at_place : {reply : Reply TwoKinds} {k : Kind} {j : Mark} → checked n m t c i ≡ Asked.At k j
+  pub parties_at_place : {reply : Reply TwoKinds} {k : Kind} {j : Mark} → checked n m t c i ≡ Result.Ok (k, j)
       → reply ≡ (parties_at n m t k.0 j.0).reply → reply ≡ (parties n m t c i).reply
   unfolding parties parties_at
   parties_at_place {reply} e is =

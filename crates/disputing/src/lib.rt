@@ -2,15 +2,17 @@
 #![tactic(auto)]
 
 ghost use Rattle.std.specs.Prelude.{◌≡◌, List, ℕ, ◌*◌, length};
-ghost use Rattle.asking.specs.Ask.{Within};
+ghost use Rattle.books.specs.Ask.{Within};
+ghost use Rattle.books.specs.Lent.{tables_read};
 ghost use Rattle.tables.specs.Calls.{parties};
-ghost use Rattle.tables.specs.Reply.{paired};
+ghost use Rattle.tables.specs.Reply.{replied_as, kinds_of};
 ghost use Rattle.tables.specs.Tables.{lent};
 ghost use Rattle.disputing.specs.Parties.{parties_at};
 
-use asking::Asked;
+use books::Tables;
 use inheritance::{Kind, Mark};
-use tables::{Pair, Refusal};
+use relation::Relation;
+use tables::{Refusal, place};
 
 // The answer at a kind and a mark of the book.
 fn answer(
@@ -22,43 +24,40 @@ fn answer(
     disputes: &[u16],
     k: Kind,
     j: Mark,
-) -> Pair
+) -> Result<(Kind, Kind), Refusal>
     requires { (Within n m rules.now entries.now k j) × (length links.now ≡ n * n) × (length disputes.now ≡ m) }
-    ensures { (tally : List ℕ) → paired result ≡ (parties_at n m (lent links.now rules.now entries.now tally disputes.now) k.0 j.0).reply }
+    ensures { (tally : List ℕ) → replied_as kinds_of result ≡ (parties_at n m (lent links.now rules.now entries.now tally disputes.now) k.0 j.0).reply }
 {
-    let mut rows = [0u64; 256];
+    let mut rows = Relation::empty();
     let mut order = [0u8; 128];
-    let mut reach = [0u64; 256];
-    let mut ruled = [0u64; 256];
+    let mut reach = Relation::empty();
+    let mut ruled = Relation::empty();
     let sound = soundness::examine(
         n as usize, m as usize, links, rules, entries, disputes, &mut rows, &mut order, &mut reach,
         &mut ruled,
     );
     if !sound {
-        return Pair::Refused(Refusal::Unsound);
+        return Err(Refusal::Unsound);
     }
-    if entries[tables::place(k, j, m)] < 257 {
-        return Pair::Refused(Refusal::NoDispute);
+    if entries[place(k, j, m)] < 257 {
+        return Err(Refusal::NoDispute);
     }
     parting::left_pair(&order, &reach, &ruled, n as usize, k, j)
 }
 
-// The lowest kind left at the kind, then the second lowest.
-pub fn parties(
-    n: u16,
-    m: u16,
-    links: &[u8],
-    rules: &[u16],
-    entries: &[u16],
-    tally: &[u32],
-    disputes: &[u16],
-    kind: Kind,
-    mark: Mark,
-) -> Pair
-    ensures { paired result ≡ (parties n m (lent links.now rules.now entries.now tally.now disputes.now) kind.0 mark.0).reply }
+/// The lowest kind left at the kind, then the second lowest.
+pub fn parties(tables: &Tables, kind: Kind, mark: Mark) -> Result<(Kind, Kind), Refusal>
+    ensures { replied_as kinds_of result ≡ (parties tables.now.n tables.now.m (tables_read tables.now) kind.0 mark.0).reply }
 {
-    match asking::ask_place(n, m, links, rules, entries, tally, disputes, kind, mark) {
-        Asked::Refused(why) => Pair::Refused(why),
-        Asked::At(k, j) => answer(n, m, links, rules, entries, disputes, k, j),
-    }
+    let (k, j) = tables.ask_place(kind, mark)?;
+    answer(
+        tables.n,
+        tables.m,
+        tables.links,
+        tables.rules,
+        tables.entries,
+        tables.disputes,
+        k,
+        j,
+    )
 }

@@ -1,31 +1,31 @@
 // The four edits, and one function for any of them given as a value.
 #![tactic(auto)]
 
-ghost use Rattle.std.specs.Prelude.{◌≡◌};
+ghost use Rattle.std.specs.Prelude.{◌≡◌, OnErr};
+ghost use Rattle.books.specs.Lent.{SameBook, tables_of};
 ghost use Rattle.tables.specs.Lists.{edit_outcome, change_of};
 ghost use Rattle.tables.specs.Calls.{leaves};
-ghost use Rattle.tables.specs.Reply.{edited};
-ghost use Rattle.tables.specs.Tables.{lent};
+ghost use Rattle.tables.specs.Reply.{replied};
 
+use books::Book;
 pub use link_edits::{add_link, take_link};
 pub use rule_edits::{add_rule, take_rule};
-use tables::{Caller, Change, Edited};
+use tables::{Caller, Change, Refusal};
 
-// The caller's change is made on the tables.
-pub fn make(
-    caller: Caller,
-    change: Change,
-    n: u16,
-    m: u16,
-    links: &mut [u8],
-    rules: &mut [u16],
-    entries: &mut [u16],
-    tally: &mut [u32],
-    disputes: &mut [u16],
-) -> Edited
-    ensures { leaves (edited result) (lent links.new rules.new entries.new tally.new disputes.new)
-        ≡ edit_outcome n m (lent links.old rules.old entries.old tally.old disputes.old) caller.0 (change_of change) }
+/// The caller's change is made on the book.
+pub fn make(book: &mut Book, caller: Caller, change: Change) -> Result<u16, Refusal>
+    ensures same { SameBook book.old book.new }
+    ensures outcome { leaves (replied result) (tables_of book.new)
+        ≡ edit_outcome book.old.n book.old.m (tables_of book.old) caller.0 (change_of change) }
+    ensures refused { OnErr result (tables_of book.new ≡ tables_of book.old) }
 {
+    let n = book.n;
+    let m = book.m;
+    let links = &mut *book.links;
+    let rules = &mut *book.rules;
+    let entries = &mut *book.entries;
+    let tally = &mut *book.tally;
+    let disputes = &mut *book.disputes;
     match change {
         Change::AddRule(kind, mark, handling) => {
             add_rule(

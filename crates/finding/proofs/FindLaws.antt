@@ -11,8 +11,8 @@ use borrow.Author.Tests.{leb-true, leb-false, eqb-true, eqb-false, le-leb, lt-le
 use Rattle.inheritance.specs.declared.Lookup.{Lookup}
 use Rattle.tables.specs.Reply.{Reply, refused, given, Finding}
 use Rattle.tables.specs.Calls.{handled, finding_of}
-use Rattle.tables.specs.Entry.{lookup_of}
-use Rattle.tables.proofs.EntryLaws.{lookup_rule, lookup_dispute}
+use Rattle.inheritance.specs.Entry.{lookup_of}
+use Rattle.inheritance.proofs.EntryLaws.{lookup_rule, lookup_dispute}
 use Rattle.tables.proofs.FindingLaws.{finding_none, finding_rule, finding_dispute, finding_bad}
 
 abbrev pub lookup_answer : ℕ → (rule : ℕ → ℕ) → Lookup → Reply Finding

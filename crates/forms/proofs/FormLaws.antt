@@ -6,18 +6,17 @@
 -- Assumes nothing.
 use mathlib.Core.Path.{◌≡◌, refl, ◌∙◌}
 use mathlib.Core.Bool.{Bool, true, false, ◌&&◌, ◌||◌, not}
-use mathlib.Core.List.{List, [], ◌∷◌, ◌++◌}
+use mathlib.Core.List.{List, [], ◌∷◌}
 use mathlib.Core.Logic.{◌⊎◌, inl, inr}
-use mathlib.Core.Option.{Option, none, some}
+use Rattle.std.specs.Prelude.{Option, Some, None}
 use Prim.Native.Nat.{ℕ, ◌+◌, ◌*◌, ◌≤◌, ◌<◌}
 use native.Mathlib.Omega.{arith}
 use borrow.Author.Tests.{le-leb, lt-leb, leb-true}
 use lib.Dec.{eqb, leb}
-use lib.ListN.{length, get_or, drop}
-use Rattle.patterns.specs.declared.Match.{Match}
-use Rattle.patterns.specs.Decimal.{is_digit}
-use Rattle.patterns.specs.Pattern.{slots, filled, byte_then, starts_with, behind, fits, match_of}
-use Rattle.patterns.proofs.PatternLaws.{head_fits, both_true, Small, apart, fits_byte, filled_byte, length_filled, filled_fits, Filling, fits_filled}
+use lib.ListN.{length, get_or}
+use Rattle.forms.specs.Decimal.{is_digit}
+use Rattle.forms.specs.Pattern.{slots, filled, byte_then, fits, match_of}
+use Rattle.forms.proofs.PatternLaws.{both_true, Small, apart, fits_byte, filled_byte, length_filled, filled_fits, Filling, fits_filled}
 use Rattle.forms.specs.Forms.{Form, bad, Shape, shapes, or_else, first_fit, form_of}
 
 pub form_long : (line : List ℕ) → 64 < length line → form_of line ≡ bad
@@ -28,28 +27,25 @@ pub form_short : (line : List ℕ) → length line ≤ 64 → form_of line ≡ f
 unfolding form_of
 form_short line h = rw (le-leb (length line) 64 h, form_of)
 
-or_yes : {a b c : ℕ} (o : Option (List ℕ)) (form : ℕ → ℕ → ℕ → Form) (next : Form) → Match.Yes a b c ≡ match_of o → or_else o form next ≡ form a b c
-or_yes none form next e = let z : ◌≡◌ {A = ℕ} 0 1 = cc in absurd (omega arith)
-or_yes (some vs) form next e = cc
+or_yes : (vs : ℕ × ℕ × ℕ) (o : Option (List ℕ)) (form : ℕ → ℕ → ℕ → Form) (next : Form) → Some vs ≡ match_of o
+    → or_else o form next ≡ form vs.0 vs.1 vs.2
+or_yes vs None form next e = let z : ◌≡◌ {A = ℕ} 0 1 = cc in absurd (omega arith)
+or_yes vs (Some ws) form next e = let same : vs ≡ (get_or ws 0 0, get_or ws 1 0, get_or ws 2 0) = cc in rw same refl
 
-or_no : (o : Option (List ℕ)) (form : ℕ → ℕ → ℕ → Form) (next : Form) → Match.No ≡ match_of o → or_else o form next ≡ next
-or_no none form next e = refl
-or_no (some vs) form next e = let z : ◌≡◌ {A = ℕ} 0 1 = cc in absurd (omega arith)
+or_no : (o : Option (List ℕ)) (form : ℕ → ℕ → ℕ → Form) (next : Form) → None ≡ match_of o → or_else o form next ≡ next
+or_no None form next e = refl
+or_no (Some vs) form next e = let z : ◌≡◌ {A = ℕ} 0 1 = cc in absurd (omega arith)
 
--- a shape is tried by its bytes before the first number, and then by the rest of it
-module _ (head tail : List ℕ) (plain : slots head ≡ 0) (form : ℕ → ℕ → ℕ → Form) (rest : List Shape) (line : List ℕ) {here : Bool} (starts : here ≡ starts_with head line) where
-  whole : match_of (behind here (fits tail (drop (length head) line))) ≡ match_of (fits (head ++ tail) line)
-  whole = rw (head_fits head tail line plain, starts)
-
-  pub fit : {a b c : ℕ} → Match.Yes a b c ≡ match_of (behind here (fits tail (drop (length head) line)))
-      → first_fit (record { pattern = head ++ tail; form = form } ∷ rest) line ≡ form a b c
+-- a shape is tried, and then the next
+module _ (s : Shape) (rest : List Shape) (line : List ℕ) where
+  pub fit : {vs : ℕ × ℕ × ℕ} → Some vs ≡ match_of (fits s.pattern line)
+      → first_fit (s ∷ rest) line ≡ s.form vs.0 vs.1 vs.2
   unfolding first_fit
-  fit e = or_yes (fits (head ++ tail) line) form (first_fit rest line) (e ∙ whole)
+  fit {vs} e = or_yes vs (fits s.pattern line) s.form (first_fit rest line) e
 
-  pub misfit : Match.No ≡ match_of (behind here (fits tail (drop (length head) line)))
-      → first_fit (record { pattern = head ++ tail; form = form } ∷ rest) line ≡ first_fit rest line
+  pub misfit : None ≡ match_of (fits s.pattern line) → first_fit (s ∷ rest) line ≡ first_fit rest line
   unfolding first_fit
-  misfit e = or_no (fits (head ++ tail) line) form (first_fit rest line) (e ∙ whole)
+  misfit e = or_no (fits s.pattern line) s.form (first_fit rest line) e
 
 -- ---- A shape filled with numbers is read as its form
 
@@ -59,14 +55,14 @@ clash [] q = false
 clash (a ∷ p) [] = false
 clash (a ∷ p) (b ∷ q) = not (eqb a 35) && not (eqb b 35) && (not (eqb b a) || clash p q)
 
-clash_misfit : (p q vs : List ℕ) → clash p q ≡ true → fits p (filled q vs) ≡ none
+clash_misfit : (p q vs : List ℕ) → clash p q ≡ true → fits p (filled q vs) ≡ None
 unfolding clash
 clash_misfit [] q vs h = let z : ◌≡◌ {A = ℕ} 0 1 = cc in absurd (omega arith)
 clash_misfit (a ∷ p) [] vs h = let z : ◌≡◌ {A = ℕ} 0 1 = cc in absurd (omega arith)
 clash_misfit (a ∷ p) (b ∷ q) vs h = go (eqb a 35) (eqb b 35) (eqb b a) refl refl refl (λ t. clash_misfit p q vs t) h
   where
-    go : (x y z : Bool) → eqb a 35 ≡ x → eqb b 35 ≡ y → eqb b a ≡ z → (clash p q ≡ true → fits p (filled q vs) ≡ none)
-        → (not x && not y && (not z || clash p q)) ≡ true → fits (a ∷ p) (filled (b ∷ q) vs) ≡ none
+    go : (x y z : Bool) → eqb a 35 ≡ x → eqb b 35 ≡ y → eqb b a ≡ z → (clash p q ≡ true → fits p (filled q vs) ≡ None)
+        → (not x && not y && (not z || clash p q)) ≡ true → fits (a ∷ p) (filled (b ∷ q) vs) ≡ None
     go true y z e f g next t = let w : ◌≡◌ {A = ℕ} 0 1 = cc in absurd (omega arith)
     go false true z e f g next t = let w : ◌≡◌ {A = ℕ} 0 1 = cc in absurd (omega arith)
     go false false false e f g next t = rw (fits_byte a p (filled (b ∷ q) vs) e, filled_byte b q vs f, g, byte_then)
@@ -145,9 +141,9 @@ first_written (s ∷ rest) line = go (fits s.pattern line) refl (first_written r
   where
     go : (o : Option (List ℕ)) → fits s.pattern line ≡ o → (first_fit rest line ≡ bad) ⊎ Written rest line (first_fit rest line)
         → (or_else o s.form (first_fit rest line) ≡ bad) ⊎ Written (s ∷ rest) line (or_else o s.form (first_fit rest line))
-    go (some vs) e next = inr (record { shape = s; among = first; values = vs; filling = fits_filled e; is = refl })
-    go none e (inl b) = inl b
-    go none e (inr w) =
+    go (Some vs) e next = inr (record { shape = s; among = first; values = vs; filling = fits_filled e; is = refl })
+    go None e (inl b) = inl b
+    go None e (inr w) =
         inr (record { shape = w.shape; among = later w.among; values = w.values; filling = w.filling; is = w.is })
 
 pub has_form : (line : List ℕ) → (form_of line ≡ bad) ⊎ Written shapes line (form_of line)

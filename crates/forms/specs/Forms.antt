@@ -1,13 +1,12 @@
 -- The forms that the text program reads. A line is here without its line feed.
 --     Form       what a line asks for; bad: it has none of the forms, which is refusal 12
 --     form_of    what a line asks for: over 64 bytes, empty, or of any other shape, it is bad
---     formed     the form that each case of the code's enum stands for
+--     formed_as, formed    the form that the code's enum stands for; a line that is none of them is bad
 -- Assumes nothing.
-use Rattle.std.specs.Prelude.{true, false, List, [], ◌∷◌, ℕ, leb, length, get_or}
-use Rattle.std.proofs.Math.Option.{Option, none, some}
+use Rattle.std.specs.Prelude.{true, false, List, [], ◌∷◌, ℕ, leb, length, get_or, Option, Some, None}
 use Prim.Native.String.{String}
-use Rattle.patterns.specs.Bytes.{bytes}
-use Rattle.patterns.specs.Pattern.{fits}
+use Rattle.forms.specs.Bytes.{bytes}
+use Rattle.forms.specs.Pattern.{fits}
 use Rattle.forms.specs.declared.Form.{Form as Read}
 
 pub data Form : Type 0 where
@@ -39,8 +38,8 @@ shapes =
 
 -- the form with the numbers found; the next where there are none
 abbrev pub or_else : Option (List ℕ) → (form : ℕ → ℕ → ℕ → Form) → (next : Form) → Form
-or_else none form next = next
-or_else (some vs) form next = form (get_or vs 0 0) (get_or vs 1 0) (get_or vs 2 0)
+or_else None form next = next
+or_else (Some vs) form next = form (get_or vs 0 0) (get_or vs 1 0) (get_or vs 2 0)
 
 -- the form of the first shape that fits
 unfoldable pub first_fit : List Shape → List ℕ → Form
@@ -50,11 +49,14 @@ first_fit (s ∷ rest) line = or_else (fits s.pattern line) s.form (first_fit re
 unfoldable pub form_of : List ℕ → Form
 form_of line = elim (leb (length line) 64) [ true ↦ first_fit shapes line | false ↦ bad ]
 
-abbrev pub formed : Read → Form
-formed (Read.Open n m) = open_book n m
-formed (Read.AddRule kind mark handling) = add_rule kind.0 mark.0 handling
-formed (Read.TakeRule kind mark) = take_rule kind.0 mark.0
-formed (Read.AddLink child parent) = add_link child.0 parent.0
-formed (Read.TakeLink child parent) = take_link child.0 parent.0
-formed (Read.Find kind mark) = find kind.0 mark.0
-formed Read.Bad = bad
+abbrev pub formed_as : Read → Form
+formed_as (Read.Open n m) = open_book n m
+formed_as (Read.AddRule kind mark handling) = add_rule kind.0 mark.0 handling
+formed_as (Read.TakeRule kind mark) = take_rule kind.0 mark.0
+formed_as (Read.AddLink child parent) = add_link child.0 parent.0
+formed_as (Read.TakeLink child parent) = take_link child.0 parent.0
+formed_as (Read.Find kind mark) = find kind.0 mark.0
+
+abbrev pub formed : Option Read → Form
+formed (Some form) = formed_as form
+formed None = bad

@@ -8,12 +8,13 @@ ghost use Rattle.tables.specs.Lists.{make_list};
 ghost use Rattle.tables.specs.Tables.{lent};
 ghost use Rattle.packing.specs.Packed.{packed_opened, packed_edited, packed_pair, packed_fault, packed_listing, Answers};
 
+use books::{Book, Tables};
 use inheritance::{Kind, Mark};
-use packing::{pack_carried, pack_edited, pack_inspected, pack_opened, pack_pair, pack_saved};
-use stores::Name;
+use packing::{pack_done, pack_edited, pack_inspected, pack_listing, pack_pair};
+use stores::{Name, Store, StoreMut};
 use tables::{Caller, Edit};
 
-// Open.
+/// Open.
 #[unsafe(no_mangle)]
 pub extern "C" fn house_open(
     n: u16,
@@ -26,10 +27,19 @@ pub extern "C" fn house_open(
 ) -> u32
     ensures { Answers packed_opened (open_book n m (lent links.old rules.old entries.old tally.old disputes.old)) result (lent links.new rules.new entries.new tally.new disputes.new) }
 {
-    pack_opened(calls::open(n, m, links, rules, entries, tally, disputes))
+    let mut book = Book {
+        n,
+        m,
+        links,
+        rules,
+        entries,
+        tally,
+        disputes,
+    };
+    pack_done(calls::open(&mut book))
 }
 
-// Add rule.
+/// Add rule.
 #[unsafe(no_mangle)]
 pub extern "C" fn house_add_rule(
     n: u16,
@@ -61,7 +71,7 @@ pub extern "C" fn house_add_rule(
     ))
 }
 
-// Take rule.
+/// Take rule.
 #[unsafe(no_mangle)]
 pub extern "C" fn house_take_rule(
     n: u16,
@@ -83,7 +93,7 @@ pub extern "C" fn house_take_rule(
     pack_edited(calls::take_rule(n, m, links, rules, entries, tally, disputes, by, k, j))
 }
 
-// Add link.
+/// Add link.
 #[unsafe(no_mangle)]
 pub extern "C" fn house_add_link(
     n: u16,
@@ -105,7 +115,7 @@ pub extern "C" fn house_add_link(
     pack_edited(calls::add_link(n, m, links, rules, entries, tally, disputes, by, c, p))
 }
 
-// Take link.
+/// Take link.
 #[unsafe(no_mangle)]
 pub extern "C" fn house_take_link(
     n: u16,
@@ -127,7 +137,7 @@ pub extern "C" fn house_take_link(
     pack_edited(calls::take_link(n, m, links, rules, entries, tally, disputes, by, c, p))
 }
 
-// Refresh.
+/// Refresh.
 #[unsafe(no_mangle)]
 pub extern "C" fn house_refresh(
     n: u16,
@@ -140,10 +150,10 @@ pub extern "C" fn house_refresh(
 ) -> u32
     ensures { Answers packed_edited (refresh n m (lent links.now rules.now entries.old tally.now disputes.old)) result (lent links.now rules.now entries.new tally.now disputes.new) }
 {
-    pack_edited(calls::refresh(n, m, links, rules, entries, tally, disputes))
+    pack_edited(calls::refresh_tables(n, m, links, rules, entries, tally, disputes))
 }
 
-// Inspect.
+/// Inspect.
 #[unsafe(no_mangle)]
 pub extern "C" fn house_inspect(
     n: u16,
@@ -156,10 +166,19 @@ pub extern "C" fn house_inspect(
 ) -> u32
     ensures { result ≡ packed_fault (inspect n m (lent links.now rules.now entries.now tally.now disputes.now)).reply }
 {
-    pack_inspected(calls::inspect(n, m, links, rules, entries, tally, disputes))
+    let lent = Tables {
+        n,
+        m,
+        links,
+        rules,
+        entries,
+        tally,
+        disputes,
+    };
+    pack_inspected(calls::inspect(&lent))
 }
 
-// Parties.
+/// Parties.
 #[unsafe(no_mangle)]
 pub extern "C" fn house_parties(
     n: u16,
@@ -174,7 +193,7 @@ pub extern "C" fn house_parties(
 ) -> u32
     ensures { result ≡ packed_pair (parties n m (lent links.now rules.now entries.now tally.now disputes.now) kind mark).reply }
 {
-    pack_pair(calls::parties(
+    let lent = Tables {
         n,
         m,
         links,
@@ -182,12 +201,11 @@ pub extern "C" fn house_parties(
         entries,
         tally,
         disputes,
-        Kind(kind),
-        Mark(mark),
-    ))
+    };
+    pack_pair(calls::parties(&lent, Kind(kind), Mark(mark)))
 }
 
-// A list of edits, all by one caller.
+/// A list of edits, all by one caller.
 #[unsafe(no_mangle)]
 pub extern "C" fn house_make_list(
     n: u16,
@@ -202,11 +220,20 @@ pub extern "C" fn house_make_list(
 ) -> u64
     ensures { Answers packed_listing (make_list n m (lent links.old rules.old entries.old tally.old disputes.old) caller edits.now) result (lent links.new rules.new entries.new tally.new disputes.new) }
 {
-    let by = Caller(caller);
-    pack_carried(calls::make_list(n, m, edits, links, rules, entries, tally, disputes, by))
+    let caller = Caller(caller);
+    let mut book = Book {
+        n,
+        m,
+        links,
+        rules,
+        entries,
+        tally,
+        disputes,
+    };
+    pack_listing(calls::make_list(&mut book, caller, edits))
 }
 
-// Save: only the store is written.
+/// Save: only the store is written.
 #[unsafe(no_mangle)]
 pub extern "C" fn house_save(
     n: u16,
@@ -225,8 +252,7 @@ pub extern "C" fn house_save(
 ) -> u32
     ensures { Answers packed_opened (save n m (lent links.now rules.now entries.now tally.now disputes.now) (lent_store flags.old saved_links.old saved_rules.old saved_entries.old saved_disputes.old) name) result (lent_store flags.new saved_links.new saved_rules.new saved_entries.new saved_disputes.new) }
 {
-    let under = Name(name);
-    pack_saved(calls::save(
+    let lent = Tables {
         n,
         m,
         links,
@@ -234,16 +260,18 @@ pub extern "C" fn house_save(
         entries,
         tally,
         disputes,
+    };
+    let mut store = StoreMut {
         flags,
-        saved_links,
-        saved_rules,
-        saved_entries,
-        saved_disputes,
-        under,
-    ))
+        links: saved_links,
+        rules: saved_rules,
+        entries: saved_entries,
+        disputes: saved_disputes,
+    };
+    pack_done(calls::save(&lent, &mut store, Name(name)))
 }
 
-// Return: only the book is written.
+/// Return: only the book is written.
 #[unsafe(no_mangle)]
 pub extern "C" fn house_return(
     n: u16,
@@ -263,9 +291,7 @@ pub extern "C" fn house_return(
 ) -> u32
     ensures { Answers packed_edited (return_to n m (lent links.old rules.old entries.old tally.old disputes.old) (lent_store flags.now saved_links.now saved_rules.now saved_entries.now saved_disputes.now) caller name) result (lent links.new rules.new entries.new tally.new disputes.new) }
 {
-    let by = Caller(caller);
-    let to = Name(name);
-    pack_edited(calls::return_to(
+    let mut book = Book {
         n,
         m,
         links,
@@ -273,12 +299,14 @@ pub extern "C" fn house_return(
         entries,
         tally,
         disputes,
+    };
+    let store = Store {
         flags,
-        saved_links,
-        saved_rules,
-        saved_entries,
-        saved_disputes,
-        by,
-        to,
-    ))
+        links: saved_links,
+        rules: saved_rules,
+        entries: saved_entries,
+        disputes: saved_disputes,
+    };
+    let to = Name(name);
+    pack_edited(calls::return_to(&mut book, &store, Caller(caller), to))
 }

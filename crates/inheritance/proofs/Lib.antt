@@ -1,5 +1,7 @@
 -- The laws of inheritance, in the order in which they build on each other.
 pub mod Bools
+pub mod EntryLaws
+pub mod GivenLaws
 pub mod AboveLaws
 pub mod MeetLaws
 pub mod LeftLaws

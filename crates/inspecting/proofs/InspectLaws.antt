@@ -1,6 +1,5 @@
 -- A search for the lowest number that fails a test, and what inspect answers by it.
---     lowest_none, lowest_is, lowest_le, lowest_same     `lowest`: where all pass, where one is known, at most k, and of tests that agree
---     fails_if, passes_if                                whether all pass, by the number found
+--     lowest_none, lowest_is, lowest_same                `lowest`: where all pass, where one is known, and of tests that agree
 --     Searching                                          every number below i passes: the invariant of a loop
 --     searching_none, searching_more                     where the loop begins, and what a turn does
 --     searching_found, searching_all                     the first number that fails is found; none is
@@ -22,7 +21,8 @@ use lib.ListN.{length, get_or, take, replicate, length-replicate}
 use Rattle.inheritance.specs.Above.{above}
 use Rattle.inheritance.proofs.AboveLaws.{above_same}
 use Rattle.relation.specs.Bit.{bit}
-use Rattle.closing.specs.Closed.{Closed}
+use Rattle.relation.specs.declared.Relation.{Relation}
+use Rattle.relation.specs.Closed.{Closed}
 use Rattle.loading.specs.Loaded.{Loaded}
 use Rattle.soundness.proofs.Soundness.{rows_links, part_replicate}
 use Rattle.tables.specs.Reply.{refused, given, Fault}
@@ -38,7 +38,7 @@ use Rattle.inspecting.specs.Faults.{off_own_row, link_fault, same_at, entry_faul
 
 -- ---- the lowest number that fails
 
-pub lowest_none : (f : ℕ → Bool) (k : ℕ) → all_below f k ≡ true → lowest f k ≡ k
+lowest_none : (f : ℕ → Bool) (k : ℕ) → all_below f k ≡ true → lowest f k ≡ k
 unfolding all_below lowest
 lowest_none f zero e = refl
 lowest_none f (suc k) e = go (all_below f k) (f k) e
@@ -62,28 +62,6 @@ module _ (f : ℕ → Bool) (k : ℕ) where
 
   lowest_is : {i : ℕ} → Lowest f k i → lowest f k ≡ i
   lowest_is {i} l = one_lowest (lowest_fails f k (fails_below f k i l.within l.fails)) l
-
-  -- what a number found says of them all
-  pub fails_if : {i : ℕ} → i ≡ lowest f k → i < k → all_below f k ≡ false
-  fails_if {i} is h = go (all_below f k) refl
-    where
-      go : (b : Bool) → all_below f k ≡ b → b ≡ false
-      go true e = absurd (omega (arith, lowest_none f k e))
-      go false e = refl
-
-  pub passes_if : {i : ℕ} → i ≡ lowest f k → k ≤ i → all_below f k ≡ true
-  passes_if {i} is h = go (all_below f k) refl
-    where
-      go : (b : Bool) → all_below f k ≡ b → b ≡ true
-      go true e = refl
-      go false e = absurd (omega (arith, (lowest_fails f k e).within))
-
-  pub lowest_le : {i : ℕ} → i ≡ lowest f k → i ≤ k
-  lowest_le {i} is = go (all_below f k) refl
-    where
-      go : (b : Bool) → all_below f k ≡ b → i ≤ k
-      go true e = omega (arith, lowest_none f k e)
-      go false e = omega (arith, (lowest_fails f k e).within)
 
 lowest_same : (f g : ℕ → Bool) (k : ℕ) → ((i : ℕ) → i < k → f i ≡ g i) → lowest f k ≡ lowest g k
 lowest_same f g k same = go (all_below f k) refl
@@ -112,8 +90,8 @@ module _ {f : ℕ → Bool} {k i : ℕ} (s : Searching f k i) where
   pub searching_more : i < k → f i ≡ true → Searching f k (i + 1)
   searching_more h e = record { within = omega arith; passed = rw (below_suc, s.passed) e }
 
-  pub searching_found : i < k → f i ≡ false → (all_below f k ≡ false) × (lowest f k ≡ i)
-  searching_found h e = (fails_below f k i h e, lowest_is f k (record { within = h; fails = e; first = below_true f i s.passed }))
+  pub searching_found : i < k → f i ≡ false → (i < k) × (all_below f k ≡ false) × (lowest f k ≡ i)
+  searching_found h e = (h, fails_below f k i h e, lowest_is f k (record { within = h; fails = e; first = below_true f i s.passed }))
 
   pub searching_all : k ≤ i → all_below f k ≡ true
   searching_all h = let end : i ≡ k = omega (arith, s.within) in rw end at s.passed
@@ -121,7 +99,7 @@ module _ {f : ℕ → Bool} {k i : ℕ} (s : Searching f k i) where
 -- ---- inspect
 
 -- a kind is in its own closed row just where it is above itself
-free_tests : (n : ℕ) (links rows closed : List ℕ) → n ≤ 128 → Loaded n links rows → Closed n n rows closed → (c : ℕ) → c < n → off_own_row closed c ≡ kind_free n (up_of n links) c
+free_tests : (n : ℕ) (links : List ℕ) (rows closed : Relation) → n ≤ 128 → Loaded n links rows → Closed n n rows closed → (c : ℕ) → c < n → off_own_row closed c ≡ kind_free n (up_of n links) c
 unfolding above
 free_tests n links rows closed kinds loaded closes c h =
     ap not (closes.bits c c h (omega arith) ∙ above_same n (bit rows) (up_of n links) (rows_links n links rows kinds loaded) c c h h)
@@ -143,26 +121,32 @@ module _ (n m : ℕ) (t : Tables) where
   inspect_refused is = rw is refl
 
   -- the rows have the links if every byte is 0 or 1: else the byte is the fault, whatever the rows have
-  pub inspect_links : {rows closed : List ℕ} → shaped n m t ≡ true → (all_below (byte_right t.links) (length t.links) ≡ true → Loaded n t.links rows)
+  pub inspect_links : {rows closed : Relation} → shaped n m t ≡ true → (all_below (byte_right t.links) (length t.links) ≡ true → Loaded n t.links rows)
       → Closed n n rows closed → links_right n t.links ≡ false
       → given (link_fault n t.links closed) ≡ (inspect n m t).reply
   unfolding inspect check fault_of bytes_right well_linked
   inspect_links {rows} {closed} is loaded closes bad =
-      rw (is, size) (ap given (go (all_below (byte_right t.links) (n * n)) refl (all_below (kind_free n (up_of n t.links)) n) (all_below (entry_right n m (up_of n t.links) t.rules t.entries) (n * m))
+      rw (is, size) (ap given (go (all_below (byte_right t.links) (n * n)) refl (all_below (off_own_row closed) n) (all_below (kind_free n (up_of n t.links)) n) frees (all_below (entry_right n m (up_of n t.links) t.rules t.entries) (n * m))
       (all_below (count_right n m t.entries t.disputes) m) _ _ _ bad))
     where
       size : length t.links ≡ n * n
       size = (sized_facts 1 1 n m _ _ _ _ _ is).links_length
 
-      kinds : all_below (byte_right t.links) (n * n) ≡ true → lowest (off_own_row closed) n ≡ lowest (kind_free n (up_of n t.links)) n
-      kinds right = lowest_same _ _ n
-          (free_tests n t.links rows closed (sized_facts 1 1 n m _ _ _ _ _ is).kinds.1 (loaded (ap (all_below (byte_right t.links)) size ∙ right)) closes)
+      tests : all_below (byte_right t.links) (n * n) ≡ true → (c : ℕ) → c < n → off_own_row closed c ≡ kind_free n (up_of n t.links) c
+      tests right = free_tests n t.links rows closed (sized_facts 1 1 n m _ _ _ _ _ is).kinds.1 (loaded (ap (all_below (byte_right t.links)) size ∙ right)) closes
 
-      go : (a : Bool) → all_below (byte_right t.links) (n * n) ≡ a → (b c d : Bool) (byte entry mark : ℕ) → (a && b) ≡ false
-          → first_fault a false true true byte (lowest (off_own_row closed) n) 0 0 ≡ first_fault a b c d byte (lowest (kind_free n (up_of n t.links)) n) entry mark
-      go false q b c d byte entry mark e = refl
-      go true q false c d byte entry mark e = ap (λ (k : ℕ). first_fault true false true true byte k 0 0) (kinds q)
-      go true q true c d byte entry mark e = absurd (true≢false e)
+      frees : all_below (byte_right t.links) (n * n) ≡ true → all_below (off_own_row closed) n ≡ all_below (kind_free n (up_of n t.links)) n
+      frees right = below_same _ _ n (tests right)
+
+      kinds : all_below (byte_right t.links) (n * n) ≡ true → lowest (off_own_row closed) n ≡ lowest (kind_free n (up_of n t.links)) n
+      kinds right = lowest_same _ _ n (tests right)
+
+      go : (a : Bool) → all_below (byte_right t.links) (n * n) ≡ a → (b b' : Bool) → (all_below (byte_right t.links) (n * n) ≡ true → b ≡ b')
+          → (c d : Bool) (byte entry mark : ℕ) → (a && b') ≡ false
+          → first_fault a b true true byte (lowest (off_own_row closed) n) 0 0 ≡ first_fault a b' c d byte (lowest (kind_free n (up_of n t.links)) n) entry mark
+      go false q b b' same c d byte entry mark e = refl
+      go true q b false same c d byte entry mark e = rw (same q) (ap (λ (k : ℕ). first_fault true false true true byte k 0 0) (kinds q))
+      go true q b true same c d byte entry mark e = absurd (true≢false e)
 
   -- where the entries are right, the counts of the lookups are those of the entries; else an entry is the fault, whatever the counts are
   pub inspect_entries : {lookups counts : List ℕ} → shaped n m t ≡ true → links_right n t.links ≡ true → lookups ≡ entries_of n m (up_of n t.links) t.rules

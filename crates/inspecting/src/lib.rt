@@ -2,109 +2,100 @@
 #![tactic(auto)]
 
 ghost use Rattle.std.specs.Prelude.{◌≡◌, ◌≤◌, length};
-ghost use Rattle.tables.specs.Calls.{lowest, inspect};
-ghost use Rattle.tables.specs.Reply.{given, inspected};
-ghost use Rattle.tables.specs.Tables.{lent};
-ghost use Rattle.inspecting.specs.Faults.{off_own_row, link_fault, same_at, entry_fault};
+ghost use Rattle.books.specs.Lent.{tables_read};
+ghost use Rattle.tables.specs.Calls.{inspect};
+ghost use Rattle.tables.specs.Reply.{replied_as, fault_in};
+ghost use Rattle.inspecting.specs.Faults.{LowestFound, off_own_row, link_fault, same_at, entry_fault};
 
-use closing::close;
+use books::Tables;
 use inheritance::{Kind, Mark};
-use relation::test;
+use relation::Relation;
 use settling::settle_all;
 use soundness::examine_links;
-use tables::{Inspected, Refusal};
+use tables::{Fault, Refusal};
 
-// The lowest kind below n that is in its own row; n where none is.
-fn first_in_own_row(rows: &[u64; 256], n: usize) -> usize
+// The lowest kind below n that is in its own row.
+fn first_in_own_row(rows: &Relation, n: usize) -> Option<usize>
     requires { n ≤ 128 }
-    ensures { result ≡ lowest (off_own_row rows.now) n }
+    ensures { LowestFound (off_own_row rows.now) n result }
 {
     for c in 0..n {
-        if test(rows, c, c) {
-            return c;
+        if rows.has(c, c) {
+            return Some(c);
         }
     }
-    n
+    None
 }
 
-// The first fault of links that have one: the lowest place of a byte above 1, or else the lowest kind above itself. Closed
-// has who is above whom.
-fn link_fault(n: usize, links: &[u8], closed: &[u64; 256]) -> Inspected
+// The first fault of the links: the lowest place of a byte above 1, or else the lowest kind above itself. Closed has who is
+// above whom.
+fn link_fault(n: usize, links: &[u8], closed: &Relation) -> Option<Fault>
     requires { (n ≤ 128) × (length links.now ≤ 16384) }
-    ensures { inspected result ≡ given (link_fault n links.now closed.now) }
+    ensures { fault_in result ≡ link_fault n links.now closed.now }
 {
-    for i in 0..links.len() {
-        if links[i] > 1 {
-            let place = i as u16;
-            return Inspected::LinkByte(place);
+    for (i, byte) in links.iter().enumerate() {
+        if *byte > 1 {
+            return Some(Fault::LinkByte(i as u16));
         }
     }
-    let kind = first_in_own_row(closed, n) as u16;
-    Inspected::AboveItself(Kind(kind))
+    match first_in_own_row(closed, n) {
+        Some(kind) => Some(Fault::AboveItself(Kind(kind as u16))),
+        None => None,
+    }
 }
 
-// The lowest place at which two tables differ; their length where none does.
-fn first_apart(xs: &[u16], ys: &[u16]) -> usize
+// The lowest place at which two tables differ.
+fn first_apart(xs: &[u16], ys: &[u16]) -> Option<usize>
     requires { length ys.now ≡ length xs.now }
-    ensures { result ≡ lowest (same_at xs.now ys.now) (length xs.now) }
+    ensures { LowestFound (same_at xs.now ys.now) (length xs.now) result }
 {
     for i in 0..xs.len() {
         if xs[i] != ys[i] {
-            return i;
+            return Some(i);
         }
     }
-    xs.len()
+    None
 }
 
 // The fault of tables whose links have none: the lowest place whose entry is not its lookup, or else the lowest mark whose dispute
 // count is not that of the lookups.
-fn entry_fault(entries: &[u16], lookups: &[u16], disputes: &[u16], counts: &[u16]) -> Inspected
+fn entry_fault(entries: &[u16], lookups: &[u16], disputes: &[u16], counts: &[u16]) -> Option<Fault>
     requires lookups_as_entries { (length lookups.now ≡ length entries.now) × (length entries.now ≤ 8192) }
     requires counts_as_disputes { (length counts.now ≡ length disputes.now) × (length disputes.now ≤ 64) }
-    ensures { inspected result ≡ given (entry_fault entries.now lookups.now disputes.now counts.now) }
+    ensures { fault_in result ≡ entry_fault entries.now lookups.now disputes.now counts.now }
 {
-    let place = first_apart(entries, lookups);
-    if place < entries.len() {
-        return Inspected::WrongEntry(place as u16);
+    if let Some(place) = first_apart(entries, lookups) {
+        return Some(Fault::WrongEntry(place as u16));
     }
-    let mark = first_apart(disputes, counts);
-    if mark < disputes.len() {
-        return Inspected::WrongCount(Mark(mark as u16));
+    if let Some(mark) = first_apart(disputes, counts) {
+        return Some(Fault::WrongCount(Mark(mark as u16)));
     }
-    Inspected::Sound
+    None
 }
 
-// Sound, or the first fault. Where a kind is above itself there are no lookups to compare with, so the links are judged
-// first. The lookups are worked out apart from the entries, which are not written: an entry that agrees with a wrong one is wrong.
-pub fn inspect(
-    n: u16,
-    m: u16,
-    links: &[u8],
-    rules: &[u16],
-    entries: &[u16],
-    tally: &[u32],
-    disputes: &[u16],
-) -> Inspected
-    ensures { inspected result ≡ (inspect n m (lent links.now rules.now entries.now tally.now disputes.now)).reply }
+/// None where the tables are sound, or the first fault. Where a kind is above itself there are no lookups to compare with, so the links
+/// are judged first. The lookups are worked out apart from the entries, which are not written: an entry that agrees with a wrong one is
+/// wrong.
+pub fn inspect(tables: &Tables) -> Result<Option<Fault>, Refusal>
+    ensures { replied_as fault_in result ≡ (inspect tables.now.n tables.now.m (tables_read tables.now)).reply }
 {
-    let shaped = measuring::shape(n, m, links, rules, entries, tally, disputes);
-    if !shaped {
-        return Inspected::Refused(Refusal::Shape);
+    if !tables.is_shaped() {
+        return Err(Refusal::Shape);
     }
-    let mut rows = [0u64; 256];
+    let n = tables.n as usize;
+    let m = tables.m as usize;
+    let mut rows = Relation::empty();
     let mut order = [0u8; 128];
-    let mut reach = [0u64; 256];
-    let linked = examine_links(n as usize, links, &mut rows, &mut order, &mut reach);
+    let mut reach = Relation::empty();
+    let linked = examine_links(n, tables.links, &mut rows, &mut order, &mut reach);
     if !linked {
-        close(&mut rows, n as usize);
-        return link_fault(n as usize, links, &rows);
+        rows.close(n);
+        return Ok(link_fault(n, tables.links, &rows));
     }
     let mut scratch = [0u16; 8192];
-    let lookups = &mut scratch[..entries.len()];
+    let lookups = &mut scratch[..tables.entries.len()];
     let mut counted = [0u16; 64];
-    let counts = &mut counted[..disputes.len()];
-    settle_all(
-        &rows, &order, &reach, n as usize, m as usize, rules, lookups, counts,
-    );
-    entry_fault(entries, lookups, disputes, counts)
+    let counts = &mut counted[..tables.disputes.len()];
+    settle_all(&rows, &order, &reach, n, m, tables.rules, lookups, counts);
+    Ok(entry_fault(tables.entries, lookups, tables.disputes, counts))
 }

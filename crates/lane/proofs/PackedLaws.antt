@@ -15,15 +15,15 @@ use Rattle.inheritance.specs.declared.Kind.{Kind}
 use Rattle.inheritance.specs.declared.Mark.{Mark}
 use Rattle.inheritance.specs.Checked.{kind_below, mark_below}
 use Rattle.tables.specs.declared.Refusal.{Refusal}
-use Rattle.asking.specs.declared.Asked.{Asked}
-use Rattle.asking.specs.Ask.{asked_at, asked, Within}
+use Rattle.std.specs.Prelude.{Result}
+use Rattle.books.specs.Ask.{asked_at, asked, Within}
 use Rattle.tables.specs.Reply.{refusal_number}
 use Rattle.tables.specs.Tables.{Tables, shaped}
 use Rattle.tables.specs.Calls.{finding_of}
 use Rattle.tables.specs.Controller.{words16, spelled, shaped_bytes, packed, find_packed}
 use Rattle.tables.proofs.ControllerLaws.{spelled_shape}
 use Rattle.tables.proofs.ShapeLaws.{and_iff}
-use Rattle.asking.proofs.AskLaws.{let_through, admitted, finding_at, find_at, find_refused}
+use Rattle.books.proofs.AskLaws.{let_through, admitted, finding_at, find_at, find_refused}
 use Rattle.tables.proofs.FindingLaws.{finding_none, finding_dispute, finding_bad}
 
 module _ (n e : ℕ) (rule : ℕ → ℕ) where
@@ -48,28 +48,28 @@ module _ (n e : ℕ) (rule : ℕ → ℕ) where
       go false false some low h = ap packed (finding_bad n rule e (leb-false e n low) h)
 
 module _ (n m : ℕ) (t : Tables) (c i : ℕ) where
-  pub packed_at : {k : Kind} {j : Mark} → asked (shaped_bytes n m t) (asked_at (kind_below n c) (mark_below m i)) ≡ Asked.At k j
+  pub packed_at : {k : Kind} {j : Mark} → asked (shaped_bytes n m t) (asked_at (kind_below n c) (mark_below m i)) ≡ Result.Ok (k, j)
       → find_packed n m t c i ≡ packed (finding_at n m (spelled t) k.0 j.0)
   unfolding find_packed
   packed_at {k} {j} e =
       let is = (let_through (shaped_bytes n m t) e).0 in
-      let same : asked (shaped n m (spelled t)) (asked_at (kind_below n c) (mark_below m i)) ≡ Asked.At k j = rw (spelled_shape n m t is) (rw is at e) in
+      let same : asked (shaped n m (spelled t)) (asked_at (kind_below n c) (mark_below m i)) ≡ Result.Ok (k, j) = rw (spelled_shape n m t is) (rw is at e) in
       rw (is, find_packed) (ap packed (find_at n m (spelled t) c i same))
 
-  pub bytes_within : {k : Kind} {j : Mark} → asked (shaped_bytes n m t) (asked_at (kind_below n c) (mark_below m i)) ≡ Asked.At k j
+  pub bytes_within : {k : Kind} {j : Mark} → asked (shaped_bytes n m t) (asked_at (kind_below n c) (mark_below m i)) ≡ Result.Ok (k, j)
       → Within n m (words16 t.rules) (words16 t.entries) k j
   bytes_within {k} {j} e =
       let is = (let_through (shaped_bytes n m t) e).0 in
       (admitted n m (spelled t) c i {k = k} {j = j} (rw (spelled_shape n m t is) (rw is at e))).1
 
-  pub packed_refused : {why : Refusal} → asked (shaped_bytes n m t) (asked_at (kind_below n c) (mark_below m i)) ≡ Asked.Refused why
+  pub packed_refused : {why : Refusal} → asked (shaped_bytes n m t) (asked_at (kind_below n c) (mark_below m i)) ≡ Result.Err why
       → find_packed n m t c i ≡ refusal_number why
   unfolding find_packed
   packed_refused {why} e = go (shaped_bytes n m t) refl e
     where
-      go : (b : Bool) → shaped_bytes n m t ≡ b → asked b (asked_at (kind_below n c) (mark_below m i)) ≡ Asked.Refused why
+      go : (b : Bool) → shaped_bytes n m t ≡ b → asked b (asked_at (kind_below n c) (mark_below m i)) ≡ Result.Err why
           → find_packed n m t c i ≡ refusal_number why
       go false is e = let w : Refusal.Shape ≡ why = cc in rw (is, find_packed, ← w) refl
       go true is e =
-          let same : asked (shaped n m (spelled t)) (asked_at (kind_below n c) (mark_below m i)) ≡ Asked.Refused why = rw (spelled_shape n m t is) e in
+          let same : asked (shaped n m (spelled t)) (asked_at (kind_below n c) (mark_below m i)) ≡ Result.Err why = rw (spelled_shape n m t is) e in
           rw (is, find_packed) (ap packed (find_refused n m (spelled t) c i same))

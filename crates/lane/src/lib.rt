@@ -2,12 +2,12 @@
 #![tactic(auto)]
 
 ghost use Rattle.std.specs.Prelude.{◌≡◌, ◌+◌, ◌*◌, ◌<◌, length, get_or};
-ghost use Rattle.asking.specs.Ask.{Within};
+ghost use Rattle.books.specs.Ask.{Within};
 ghost use Rattle.tables.specs.Calls.{finding_of};
 ghost use Rattle.tables.specs.Controller.{words16, packed, find_packed};
 ghost use Rattle.tables.specs.Tables.{lent};
 
-use inheritance::{CheckedKind, CheckedMark, Kind, Mark};
+use inheritance::{Kind, Mark};
 use tables::Refusal;
 
 // The number of 16 bits at a place of a table that is given as bytes, the lowest byte first.
@@ -59,15 +59,15 @@ pub extern "C" fn lane_find(
 ) -> u32
     ensures { result ≡ find_packed n m (lent links.now rules.now entries.now tally.now disputes.now) kind mark }
 {
-    let shaped = measuring::shape_bytes(n, m, links, rules, entries, tally, disputes);
+    let shaped = books::shape_bytes(n, m, links, rules, entries, tally, disputes);
     if !shaped {
-        return Refusal::Shape.number() as u32;
+        return Refusal::Shape as u32;
     }
-    match Kind::new(kind, n) {
-        CheckedKind::Outside => Refusal::Kind.number() as u32,
-        CheckedKind::Kind(k) => match Mark::new(mark, m) {
-            CheckedMark::Outside => Refusal::Mark.number() as u32,
-            CheckedMark::Mark(j) => answer(n, m, rules, entries, k, j),
-        },
-    }
+    let Some(k) = Kind::new(kind, n) else {
+        return Refusal::Kind as u32;
+    };
+    let Some(j) = Mark::new(mark, m) else {
+        return Refusal::Mark as u32;
+    };
+    answer(n, m, rules, entries, k, j)
 }

@@ -7,12 +7,11 @@
 use mathlib.Core.Path.{◌≡◌, refl, sym, ◌∙◌}
 use mathlib.Core.Bool.{Bool, true, false}
 use Prim.Native.Nat.{ℕ, ◌<◌}
+use Rattle.std.specs.Prelude.{Result}
 use Rattle.inheritance.specs.declared.Kind.{Kind}
 use Rattle.inheritance.specs.Checked.{kind_below}
-use Rattle.asking.specs.declared.CallerAsked.{CallerAsked}
-use Rattle.asking.specs.declared.LinkAsked.{LinkAsked}
-use Rattle.asking.specs.Ask.{asked_link, checked_caller}
-use Rattle.asking.proofs.AskLaws.{asked_between, link_passes, link_refuses, by_passes, caller_refuses}
+use Rattle.books.specs.Ask.{asked_link, checked_caller}
+use Rattle.books.proofs.AskLaws.{asked_between, link_passes, link_refuses, by_passes, caller_refuses}
 use Rattle.tables.specs.declared.Refusal.{Refusal}
 use Rattle.tables.specs.Caller.{callers}
 use Rattle.tables.specs.Calls.{leaves, check, add_link, take_link}
@@ -25,17 +24,17 @@ use Rattle.link_edits.specs.LinkEdit.{link_call}
 
 module _ (n m : ℕ) (t : Tables) (by c p : ℕ) where
   module _ (adding : Bool) where
-    pub first_refused : {why : Refusal} → checked_caller n m t by ≡ CallerAsked.Refused why → leaves (refused (refusal_number why)) t ≡ link_call n m t by c p adding
+    pub first_refused : {why : Refusal} → checked_caller n m t by ≡ Result.Err why → leaves (refused (refusal_number why)) t ≡ link_call n m t by c p adding
     unfolding link_call
     first_refused e = sym (caller_refuses n m t by _ e)
 
     module _ (fits : shaped n m t ≡ true) (low : by < callers) where
-      pub link_refused : {why : Refusal} → asked_link (kind_below n c) (kind_below n p) ≡ LinkAsked.Refused why
+      pub link_refused : {why : Refusal} → asked_link (kind_below n c) (kind_below n p) ≡ Result.Err why
           → leaves (refused (refusal_number why)) t ≡ link_call n m t by c p adding
       unfolding link_call
       link_refused e = sym (by_passes n m t by _ fits low ∙ link_refuses n c p t _ e)
 
-      pub link_passed : {j k : Kind} → asked_link (kind_below n c) (kind_below n p) ≡ LinkAsked.Between j k
+      pub link_passed : {j k : Kind} → asked_link (kind_below n c) (kind_below n p) ≡ Result.Ok (j, k)
           → link_edit n m t by j.0 k.0 adding ≡ link_call n m t by c p adding
       unfolding link_call
       link_passed e =

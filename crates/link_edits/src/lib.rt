@@ -4,18 +4,19 @@
 ghost use Rattle.std.specs.Prelude.{◌≡◌, true, ◌<◌};
 ghost use Rattle.tables.specs.Caller.{callers};
 ghost use Rattle.tables.specs.Calls.{leaves, add_link, take_link};
-ghost use Rattle.tables.specs.Reply.{edited};
+ghost use Rattle.tables.specs.Reply.{replied};
 ghost use Rattle.tables.specs.Tables.{lent, shaped};
 ghost use Rattle.relinking.specs.Relinked.{link_edit};
 ghost use Rattle.link_edits.specs.LinkEdit.{link_call};
 
-use asking::{CallerAsked, LinkAsked, ask_caller, ask_link};
+use books::{Tables, ask_link};
 use inheritance::Kind;
+use relation::Relation;
 use relinking::set_link;
 use soundness::examine;
-use tables::{Caller, Edited, Refusal};
+use tables::{Caller, Refusal};
 
-// The link between two kinds of the book is added or taken.
+// The link between two kinds of the book is added or taken. `adding` stays a bool, here and in what calls this: no value stands beside it.
 fn edit_link(
     n: u16,
     m: u16,
@@ -28,21 +29,21 @@ fn edit_link(
     child: Kind,
     parent: Kind,
     adding: bool,
-) -> Edited
+) -> Result<u16, Refusal>
     requires { (shaped n m (lent links.old rules.now entries.old tally.old disputes.old) ≡ true) × (caller.0 < callers) × (child.0 < n) × (parent.0 < n) }
-    ensures { leaves (edited result) (lent links.new rules.now entries.new tally.new disputes.new)
+    ensures { leaves (replied result) (lent links.new rules.now entries.new tally.new disputes.new)
         ≡ link_edit n m (lent links.old rules.now entries.old tally.old disputes.old) caller.0 child.0 parent.0 adding }
 {
-    let mut rows = [0u64; 256];
+    let mut rows = Relation::empty();
     let mut order = [0u8; 128];
-    let mut reach = [0u64; 256];
-    let mut ruled = [0u64; 256];
+    let mut reach = Relation::empty();
+    let mut ruled = Relation::empty();
     let sound = examine(
         n as usize, m as usize, links, rules, entries, disputes, &mut rows, &mut order, &mut reach,
         &mut ruled,
     );
     if !sound {
-        return Edited::Refused(Refusal::Unsound);
+        return Err(Refusal::Unsound);
     }
     set_link(
         n, m, links, rules, entries, tally, disputes, &mut rows, &mut order, &mut reach,
@@ -63,24 +64,27 @@ fn change_link(
     child: Kind,
     parent: Kind,
     adding: bool,
-) -> Edited
-    ensures { leaves (edited result) (lent links.new rules.now entries.new tally.new disputes.new)
+) -> Result<u16, Refusal>
+    ensures { leaves (replied result) (lent links.new rules.now entries.new tally.new disputes.new)
         ≡ link_call n m (lent links.old rules.now entries.old tally.old disputes.old) caller.0 child.0 parent.0 adding }
 {
-    match ask_caller(n, m, links, rules, entries, tally, disputes, caller) {
-        CallerAsked::Refused(why) => Edited::Refused(why),
-        CallerAsked::By(by) => match ask_link(n, child, parent) {
-            LinkAsked::Refused(why) => Edited::Refused(why),
-            LinkAsked::Between(c, p) => {
-                edit_link(
-                    n, m, links, rules, entries, tally, disputes, by, c, p, adding,
-                )
-            }
-        },
-    }
+    let lent = Tables {
+        n,
+        m,
+        links,
+        rules,
+        entries,
+        tally,
+        disputes,
+    };
+    let by = lent.ask_caller(caller)?;
+    let (child, parent) = ask_link(n, child, parent)?;
+    edit_link(
+        n, m, links, rules, entries, tally, disputes, by, child, parent, adding,
+    )
 }
 
-// A kind gets another as its direct parent.
+/// A kind gets another as its direct parent.
 pub fn add_link(
     n: u16,
     m: u16,
@@ -92,8 +96,8 @@ pub fn add_link(
     caller: Caller,
     child: Kind,
     parent: Kind,
-) -> Edited
-    ensures { leaves (edited result) (lent links.new rules.now entries.new tally.new disputes.new)
+) -> Result<u16, Refusal>
+    ensures { leaves (replied result) (lent links.new rules.now entries.new tally.new disputes.new)
         ≡ add_link n m (lent links.old rules.now entries.old tally.old disputes.old) caller.0 child.0 parent.0 }
 {
     change_link(
@@ -101,7 +105,7 @@ pub fn add_link(
     )
 }
 
-// A kind loses a direct parent.
+/// A kind loses a direct parent.
 pub fn take_link(
     n: u16,
     m: u16,
@@ -113,8 +117,8 @@ pub fn take_link(
     caller: Caller,
     child: Kind,
     parent: Kind,
-) -> Edited
-    ensures { leaves (edited result) (lent links.new rules.now entries.new tally.new disputes.new)
+) -> Result<u16, Refusal>
+    ensures { leaves (replied result) (lent links.new rules.now entries.new tally.new disputes.new)
         ≡ take_link n m (lent links.old rules.now entries.old tally.old disputes.old) caller.0 child.0 parent.0 }
 {
     change_link(

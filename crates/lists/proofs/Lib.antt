@@ -1,3 +1,3 @@
--- The laws of the loop.
-pub mod FewLaws
-pub mod ListLoop
+-- The laws of the edits of a list, one by one, and of the loop.
+pub mod ListingLaws
+pub mod RunLaws

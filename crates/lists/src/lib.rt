@@ -1,56 +1,50 @@
-// A list of edits in one call. All that it does stands in `listing`, which takes one record at a time.
+// A list of edits in one call. What is done before the first edit, and for each record, stands in `listing`.
 #![tactic(auto)]
 
-ghost use Rattle.std.specs.Prelude.{◌≡◌};
+mod listing;
+
+ghost use Rattle.std.specs.Prelude.{◌≡◌, OnErr};
+ghost use Rattle.books.specs.Lent.{SameBook, tables_of};
 ghost use Rattle.tables.specs.Calls.{leaves};
 ghost use Rattle.tables.specs.Lists.{make_list};
-ghost use Rattle.tables.specs.Reply.{carried};
-ghost use Rattle.tables.specs.Tables.{lent};
+ghost use Rattle.tables.specs.Reply.{replied_as, listing_of};
 
-use listing::{begin, step};
-use tables::{Caller, Carried, Edit};
+use crate::listing::{begin, step};
+use books::Book;
+use relation::Relation;
+use tables::{Caller, Edit, Listing, Refusal};
 
-// The edits in order, all by one caller, up to the first that is refused. Soundness is tested once, before the first.
-pub fn make_list(
-    n: u16,
-    m: u16,
-    edits: &[Edit],
-    links: &mut [u8],
-    rules: &mut [u16],
-    entries: &mut [u16],
-    tally: &mut [u32],
-    disputes: &mut [u16],
-    caller: Caller,
-) -> Carried
-    ensures { leaves (carried result) (lent links.new rules.new entries.new tally.new disputes.new)
-        ≡ make_list n m (lent links.old rules.old entries.old tally.old disputes.old) caller.0 edits.now }
+/// The edits in order, all by one caller, up to the first that is refused. Soundness is tested once, before the first.
+pub fn make_list(book: &mut Book, caller: Caller, edits: &[Edit]) -> Result<Listing, Refusal>
+    ensures same { SameBook book.old book.new }
+    ensures outcome { leaves (replied_as listing_of result) (tables_of book.new)
+        ≡ make_list book.old.n book.old.m (tables_of book.old) caller.0 edits.now }
+    ensures refused { OnErr result (tables_of book.new ≡ tables_of book.old) }
 {
-    let mut rows = [0u64; 256];
+    let n = book.n;
+    let m = book.m;
+    let links = &mut *book.links;
+    let rules = &mut *book.rules;
+    let entries = &mut *book.entries;
+    let tally = &mut *book.tally;
+    let disputes = &mut *book.disputes;
+    let mut rows = Relation::empty();
     let mut order = [0u8; 128];
-    let mut reach = [0u64; 256];
-    let mut ruled = [0u64; 256];
-    let mut answer = begin(
-        n,
-        m,
-        edits.len(),
-        links,
-        rules,
-        entries,
-        tally,
-        disputes,
-        &mut rows,
-        &mut order,
-        &mut reach,
-        &mut ruled,
-        caller,
-    );
-    let mut i = 0;
-    while i < edits.len() {
-        answer = step(
-            answer, edits[i], n, m, links, rules, entries, tally, disputes, &mut rows, &mut order,
+    let mut reach = Relation::empty();
+    let mut ruled = Relation::empty();
+    let records = edits.len();
+    let mut listing = begin(
+        n, m, records, links, rules, entries, tally, disputes, &mut rows, &mut order, &mut reach,
+        &mut ruled, caller,
+    )?;
+    for edit in edits {
+        listing = step(
+            listing, *edit, n, m, links, rules, entries, tally, disputes, &mut rows, &mut order,
             &mut reach, &mut ruled, caller,
         );
-        i += 1;
+        if listing.stopped.is_some() {
+            return Ok(listing);
+        }
     }
-    answer
+    Ok(listing)
 }

@@ -14,6 +14,7 @@ use native.Mathlib.Omega.{arith}
 use borrow.Author.Tests.{eq-eqb, ne_eqb, lt-ltb, le-ltb, ltb-true}
 use lib.Dec.{eqb, ltb}
 use lib.ListN.{get_or}
+use Rattle.relation.specs.declared.Relation.{Relation}
 use Rattle.relation.specs.Bit.{Blank, Added}
 use Rattle.loading.specs.Loaded.{link, Loaded, Filled, rows_before, before}
 use Rattle.relation.proofs.Bools.{both_eqb, ltb_more}
@@ -65,43 +66,41 @@ same_link n links c p d q e = let h = both_eqb d c q p e in ap₂ (link n links)
 
 -- ---- blank rows
 
-pub filled_none : (n : ℕ) (links : List ℕ) {rows : List ℕ} → Blank rows → Filled (rows_before 0) n links rows
-filled_none n links b = record { long = b.long; bits = λ d q h. rw (le-ltb d 0 zero-le) (b.none d q) }
+pub filled_none : (n : ℕ) (links : List ℕ) {rows : Relation} → Blank rows → Filled (rows_before 0) n links rows
+filled_none n links b = record { bits = λ d q h. rw (le-ltb d 0 zero-le) (b.none d q) }
 
 -- ---- a row
 
-pub filled_mark : (c p n : ℕ) (links rows next : List ℕ) → c < n → p < n → Filled (before c p) n links rows
+pub filled_mark : (c p n : ℕ) (links : List ℕ) (rows next : Relation) → c < n → p < n → Filled (before c p) n links rows
     → get_or links (c * n + p) 0 ≡ 1 → Added rows next (λ d q. eqb d c && eqb q p) → Filled (before c (p + 1)) n links next
 filled_mark c p n links rows next hc hp f is a =
     record {
-      long = a.long;
       bits = λ d q h.
           rw (a.bits d q h, f.bits d q h, before_more)
           (place_in (before c p d q) (eqb d c && eqb q p) (link n links d q)
           (λ e. same_link n links c p d q e ∙ link_is n links c p hc hp is));
     }
 
-pub filled_keep : (c p n : ℕ) (links rows : List ℕ) → Filled (before c p) n links rows
+pub filled_keep : (c p n : ℕ) (links : List ℕ) (rows : Relation) → Filled (before c p) n links rows
     → (get_or links (c * n + p) 0 ≡ 1 → ⊥) → Filled (before c (p + 1)) n links rows
 filled_keep c p n links rows f off =
     record {
-      long = f.long;
       bits = λ d q h.
           rw (f.bits d q h, before_more)
           (place_out (before c p d q) (eqb d c && eqb q p) (link n links d q)
           (λ e. same_link n links c p d q e ∙ link_not n links c p off));
     }
 
-pub filled_end : (c n : ℕ) (links rows : List ℕ) → Filled (before c n) n links rows → Filled (rows_before (c + 1)) n links rows
-filled_end c n links rows f = record { long = f.long; bits = λ d q h. f.bits d q h ∙ go d q (link n links d q) refl }
+pub filled_end : (c n : ℕ) (links : List ℕ) (rows : Relation) → Filled (before c n) n links rows → Filled (rows_before (c + 1)) n links rows
+filled_end c n links rows f = record { bits = λ d q h. f.bits d q h ∙ go d q (link n links d q) refl }
   where
     go : (d q : ℕ) (l : Bool) → link n links d q ≡ l → (before c n d q && l) ≡ (ltb d (c + 1) && l)
     go d q true e = simp (lt-ltb q n (link_within n links d q e), ltb_more, and-true)
     go d q false e = simp and-false
 
-pub loaded : (n : ℕ) (links rows : List ℕ) → Filled (rows_before n) n links rows → Loaded n links rows
+pub loaded : (n : ℕ) (links : List ℕ) (rows : Relation) → Filled (rows_before n) n links rows → Loaded n links rows
 unfolding link
-loaded n links rows f = record { long = f.long; bits = λ c p h. f.bits c p h ∙ and_again (ltb c n) _ }
+loaded n links rows f = record { bits = λ c p h. f.bits c p h ∙ and_again (ltb c n) _ }
 
 -- ---- bytes
 

@@ -6,7 +6,7 @@
 --     filled_words               row c with its words
 -- Assumes nothing.
 use mathlib.Core.Path.{◌≡◌, refl, sym, ap, ap₂, ◌∙◌}
-use mathlib.Core.Logic.{◌≢◌, by_cases}
+use mathlib.Core.Logic.{by_cases}
 use mathlib.Core.Bool.{Bool, true, false, ◌&&◌, ◌||◌, or-false, and-false, and-true}
 use mathlib.Core.List.{List}
 use Prim.Native.Nat.{ℕ, zero, suc, ◌+◌, ◌-◌, ◌*◌, ◌/◌, ◌%◌, ◌^◌, ◌<◌, ◌≤◌, min, zero-le}
@@ -16,16 +16,17 @@ use native.Mathlib.Omega.{arith}
 use borrow.Author.Tests.{ne_eqb, eqb-true, eqb-false, lt-ltb, le-ltb, le-leb, lt-leb}
 use lib.Bits.{bit_and, bit_or, or_lt, and_le_r}
 use lib.Dec.{eqb, ltb, leb}
-use lib.ListN.{get_or, set, length-set}
-use lib.Seq.{get_or-set_same, get_or-set_other}
+use lib.ListN.{get_or}
 use lib.Pow.{pow_mono, shl_lt, shl_exact}
-use Rattle.relation.specs.Bit.{on, bit, Octet}
+use Rattle.relation.specs.declared.KindSet.{KindSet}
+use Rattle.relation.specs.declared.Relation.{Relation}
+use Rattle.relation.specs.Bit.{on, holds, bit, Octet, RowSet}
 use Rattle.loading.specs.Loaded.{link, one_at, Filled, Flag, Flags, Tested, Spaced, Word, rows_before, before}
-use Rattle.relation.proofs.BitLaws.{on_or, on_and, on_power}
+use Rattle.relation.proofs.BitLaws.{on_or, on_and, on_power, holds_low, holds_high, row_same, row_other}
 use Rattle.relation.proofs.Zeros.{on_zero}
 use Rattle.loading.proofs.Filling.{row_within}
 use Rattle.relation.proofs.Octets.{on_shl, on_small}
-use Rattle.relation.proofs.Walking.{on_shifted, bit_low, bit_high}
+use Rattle.relation.proofs.Walking.{on_shifted}
 
 pub flags_part : (links : List ℕ) (i k a b : ℕ) → Flags links i k → a + b ≤ k → Flags links (i + a) b
 flags_part links i k a b f h j l = let e : i + a + j ≡ i + (a + j) = omega arith in rw e (f (a + j) (omega arith))
@@ -165,37 +166,21 @@ word_more links i q w bits h s o = rw (shl_exact 8 (8 * q) 64 o.small (omega ari
 
 -- ---- the words of a row
 
-module _ (n c low : ℕ) (links rows : List ℕ) (v w : ℕ) (most : n ≤ 128) (hc : c < n) (hl : low ≡ min (n / 8) 8) (s : Word links (c * n) (8 * low) v)
-    (t : Word links (c * n + 8 * low) (8 * (n / 8 - low)) w) (f : Filled (rows_before c) n links rows) where
-  abbrev next : List ℕ
-  next = set (set rows (2 * c) v) (2 * c + 1) w
-
-  other : (d q : ℕ) → q < 128 → d ≢ c → bit next d q ≡ bit rows d q
-  unfolding bit
-  other d q h ne =
-      ap (λ (x : ℕ). on x (q % 64))
-      (get_or-set_other (set rows (2 * c) v) (2 * c + 1) (2 * d + q / 64) w 0 (omega arith) ∙ get_or-set_other rows (2 * c) (2 * d + q / 64) v 0 (omega arith))
-
+module _ (n c low : ℕ) (links : List ℕ) (row : KindSet) (rows next : Relation) (most : n ≤ 128) (hc : c < n) (hl : low ≡ min (n / 8) 8)
+    (s : Word links (c * n) (8 * low) row.low) (t : Word links (c * n + 8 * low) (8 * (n / 8 - low)) row.high)
+    (r : RowSet c row rows next) (f : Filled (rows_before c) n links rows) where
   own : (q : ℕ) → q < 128 → bit next c q ≡ (ltb q (n / 8 * 8) && eqb (get_or links (c * n + q) 0) 1)
-  own q h = by_cases (dec_lt q 64) low_word high_word
+  own q h = row_same r q ∙ by_cases (dec_lt q 64) low_word high_word
     where
-      first : get_or next (2 * c) 0 ≡ v
-      first =
-          get_or-set_other (set rows (2 * c) v) (2 * c + 1) (2 * c) w 0 (omega arith)
-          ∙ get_or-set_same rows (2 * c) v 0 (omega (arith, f.long))
-
-      second : get_or next (2 * c + 1) 0 ≡ w
-      second = get_or-set_same (set rows (2 * c) v) (2 * c + 1) w 0 (simp length-set (omega (arith, f.long)))
-
-      low_word : q < 64 → bit next c q ≡ (ltb q (n / 8 * 8) && eqb (get_or links (c * n + q) 0) 1)
+      low_word : q < 64 → holds row q ≡ (ltb q (n / 8 * 8) && eqb (get_or links (c * n + q) 0) 1)
       low_word less =
-          bit_low next c q less ∙ ap (λ (x : ℕ). on x q) first ∙ s.at q ∙ by_cases (dec_lt q (n / 8 * 8))
+          holds_low row q less ∙ s.at q ∙ by_cases (dec_lt q (n / 8 * 8))
           (λ inside. rw (lt-ltb q (8 * low) (omega arith), lt-ltb q (n / 8 * 8) inside) refl)
           (λ past. rw (le-ltb q (8 * low) (omega arith), le-ltb q (n / 8 * 8) (omega arith)) refl)
 
-      high_word : (q < 64 → ⊥) → bit next c q ≡ (ltb q (n / 8 * 8) && eqb (get_or links (c * n + q) 0) 1)
+      high_word : (q < 64 → ⊥) → holds row q ≡ (ltb q (n / 8 * 8) && eqb (get_or links (c * n + q) 0) 1)
       high_word more =
-          bit_high next c q (omega arith) h ∙ ap (λ (x : ℕ). on x (q - 64)) second ∙ t.at (q - 64) ∙ by_cases (dec_lt q (n / 8 * 8))
+          holds_high row q (omega arith) h ∙ t.at (q - 64) ∙ by_cases (dec_lt q (n / 8 * 8))
           (λ inside.
           let place : c * n + 8 * low + (q - 64) ≡ c * n + q = omega arith in
           rw (lt-ltb (q - 64) (8 * (n / 8 - low)) (omega arith), lt-ltb q (n / 8 * 8) inside, place) refl)
@@ -208,8 +193,8 @@ module _ (n c low : ℕ) (links rows : List ℕ) (v w : ℕ) (most : n ≤ 128) 
       (λ past. rw (le-ltb q (n / 8 * 8) (omega arith)) refl)
 
   pub filled_words : Filled (before c (n / 8 * 8)) n links next
-  filled_words = record { long = simp length-set f.long; bits = λ d q h. go d q h (eqb d c) refl }
+  filled_words = record { bits = λ d q h. go d q h (eqb d c) refl }
     where
       go : (d q : ℕ) → q < 128 → (t : Bool) → eqb d c ≡ t → bit next d q ≡ ((ltb d c || (t && ltb q (n / 8 * 8))) && link n links d q)
       go d q h true e = let same = eqb-true d c e in rw (same, le-ltb c c (le_refl c)) (own q h ∙ linked q)
-      go d q h false e = other d q h (eqb-false d c e) ∙ f.bits d q h ∙ ap (λ (x : Bool). x && link n links d q) (sym (or-false (ltb d c)))
+      go d q h false e = row_other r d q (eqb-false d c e) ∙ f.bits d q h ∙ ap (λ (x : Bool). x && link n links d q) (sym (or-false (ltb d c)))

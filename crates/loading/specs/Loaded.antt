@@ -9,18 +9,17 @@
 --     Spaced     the first k bytes at i as one number, eight bits apart
 --     Word       the first k bytes at i as bits
 -- Assumes nothing.
-use Rattle.std.specs.Prelude.{◌≡◌, Bool, ◌&&◌, ◌||◌, List, ℕ, ◌+◌, ◌*◌, ◌/◌, ◌%◌, ◌^◌, ◌<◌, ◌≤◌, eqb, ltb, get_or, length}
+use Rattle.std.specs.Prelude.{◌≡◌, Bool, ◌&&◌, ◌||◌, List, ℕ, ◌+◌, ◌*◌, ◌/◌, ◌%◌, ◌^◌, ◌<◌, ◌≤◌, eqb, ltb, get_or}
+use Rattle.relation.specs.declared.Relation.{Relation}
 use Rattle.relation.specs.Bit.{on, bit}
 
 unfoldable pub link : ℕ → List ℕ → ℕ → ℕ → Bool
 link n links c p = ltb c n && (ltb p n && eqb (get_or links (c * n + p) 0) 1)
 
-pub record Loaded (n : ℕ) (links rows : List ℕ) : Type 0 where
-  pub long : length rows ≡ 256
+pub record Loaded (n : ℕ) (links : List ℕ) (rows : Relation) : Type 0 where
   pub bits : (c p : ℕ) → p < 128 → bit rows c p ≡ link n links c p
 
-pub record Filled (gone : ℕ → ℕ → Bool) (n : ℕ) (links rows : List ℕ) : Type 0 where
-  pub long : length rows ≡ 256
+pub record Filled (gone : ℕ → ℕ → Bool) (n : ℕ) (links : List ℕ) (rows : Relation) : Type 0 where
   pub bits : (d q : ℕ) → q < 128 → bit rows d q ≡ (gone d q && link n links d q)
 
 abbrev pub rows_before : ℕ → ℕ → ℕ → Bool

@@ -2,28 +2,21 @@
 // brought together by shifts.
 #![tactic(auto)]
 
-ghost use Rattle.std.specs.Prelude.{◌≡◌, ◌+◌, ◌*◌, ◌/◌, ◌<◌, ◌≤◌, min, length};
+ghost use Rattle.std.specs.Prelude.{◌+◌, ◌*◌, ◌/◌, ◌<◌, ◌≤◌, length};
 ghost use Rattle.relation.specs.Bit.{Blank, Octet};
 ghost use Rattle.loading.specs.Loaded.{Loaded, Filled, Flags, Tested, Spaced, Word, rows_before, before, one_at};
 
-use relation::mark;
-
-// A byte as a word.
-fn wide(byte: u8) -> u64
-    ensures { result ≡ byte }
-{
-    byte as u64
-}
+use relation::{KindSet, Relation};
 
 // The two bytes at i, of 0 and 1, as one number: eight bits apart, the first lowest.
 fn two(links: &[u8], i: usize) -> u64
     requires { (i + 2 ≤ length links.now) × (Flags links.now i 2) }
     ensures { Spaced links.now i 2 result }
 {
-    wide(links[i]) | wide(links[i + 1]) << 8
+    u64::from(links[i]) | u64::from(links[i + 1]) << 8
 }
 
-// The four bytes at i.
+// The four bytes at i. `four` and `eight` stay apart: by one loop over the bytes C was slower, since they are then not one load.
 fn four(links: &[u8], i: usize) -> u64
     requires { (i + 4 ≤ length links.now) × (Flags links.now i 4) }
     ensures { Spaced links.now i 4 result }
@@ -63,40 +56,36 @@ fn word(links: &[u8], i: usize, k: usize) -> u64
     w
 }
 
-// At most eight.
-fn most_eight(k: usize) -> usize
-    ensures { result ≡ min k 8 }
-{
-    if k < 8 { k } else { 8 }
-}
-
 // Row c gets its links up to the last whole eight bytes, a word at a time.
-fn load_words(links: &[u8], n: usize, c: usize, rows: &mut [u64; 256])
+fn load_words(links: &[u8], n: usize, c: usize, rows: &mut Relation)
     requires { (n * n ≤ length links.now) × (n ≤ 128) × (c < n) × (Tested n links.now) × (Filled (rows_before c) n links.now rows.old) }
     ensures { Filled (before c (n / 8 * 8)) n links.now rows.new }
 {
     let i = c * n;
     let k = n / 8;
-    let low = most_eight(k);
-    rows[2 * c] = word(links, i, low);
-    rows[2 * c + 1] = word(links, i + 8 * low, k - low);
+    let low = k.min(8);
+    let row = KindSet {
+        low: word(links, i, low),
+        high: word(links, i + 8 * low, k - low),
+    };
+    rows.set_row(c, row);
 }
 
 // Row c gets its last links, those after the last whole eight bytes.
-fn load_rest(links: &[u8], n: usize, c: usize, rows: &mut [u64; 256])
+fn load_rest(links: &[u8], n: usize, c: usize, rows: &mut Relation)
     requires { (n * n ≤ length links.now) × (n ≤ 128) × (c < n) × (Filled (before c (n / 8 * 8)) n links.now rows.old) }
     ensures { Filled (rows_before (c + 1)) n links.now rows.new }
 {
     for p in n / 8 * 8..n {
         if links[c * n + p] == 1 {
-            mark(rows, c, p);
+            rows.insert(c, p);
         }
     }
 }
 
 // The links of a book of n kinds are put into blank rows. Every byte is 0 or 1, and that at place child * n + parent is 1
 // where there is a link.
-pub fn load(links: &[u8], n: usize, rows: &mut [u64; 256])
+pub fn load(links: &[u8], n: usize, rows: &mut Relation)
     requires { (n * n ≤ length links.now) × (n ≤ 128) × (Tested n links.now) × (Blank rows.old) }
     ensures { Loaded n links.now rows.new }
 {

@@ -10,7 +10,7 @@
 use mathlib.Core.Path.{◌≡◌, refl, sym, ◌∙◌, ap}
 use mathlib.Core.Bool.{Bool, true, false, not}
 use mathlib.Core.List.{List}
-use Prim.Native.Nat.{ℕ, ◌+◌, ◌*◌, ◌<◌, ◌≤◌, min}
+use Prim.Native.Nat.{ℕ, ◌+◌, ◌*◌, ◌<◌, ◌≤◌}
 use native.Mathlib.Numerals.{add-one}
 use native.Mathlib.Omega.{arith}
 use lib.Dec.{eqb}
@@ -21,13 +21,14 @@ use Rattle.inheritance.specs.Checked.{kind}
 use Rattle.inheritance.specs.Lookup.{left, passing, join, meet}
 use Rattle.inheritance.specs.Step.{narrowed, step}
 use Rattle.inheritance.proofs.MeetLaws.{meet_keeps}
+use Rattle.relation.specs.declared.Relation.{Relation}
 use Rattle.relation.specs.Bit.{bit}
 use Rattle.relation.specs.First.{First}
 use Rattle.relation.proofs.Walking.{first_skips}
-use Rattle.tables.specs.Entry.{entry_of, lookup_of}
+use Rattle.inheritance.specs.Entry.{entry_of, lookup_of}
 use Rattle.tables.specs.Step.{read, stepped}
 use Rattle.tables.specs.Tables.{own_of}
-use Rattle.tables.proofs.EntryLaws.{Coded, coded_none, coded_dispute, coded_read}
+use Rattle.inheritance.proofs.EntryLaws.{Coded, coded_none, coded_dispute, coded_read}
 use Rattle.deciding.specs.Deciding.{Prepared, deciding, apart}
 use Rattle.deciding.specs.Row.{Row}
 use Rattle.merging.specs.Merged.{merged, narrowing, ruled, given}
@@ -57,12 +58,12 @@ module _ (m : ℕ) (up : ℕ → ℕ → Bool) (entries : List ℕ) (c : ℕ) wh
   unfolding given meet
   row_none k e h = record { long = length-replicate k 0 ∙ e; at = λ j a b. get_or-replicate k j 0 0 (omega arith) }
 
-  -- p is the next parent from k on, if there is one below n
-  pub given_next : {k n p : ℕ} → First (up c) k 128 p → k ≤ n → (j : ℕ) → given m up entries c (min p n) j ≡ given m up entries c k j
-  given_next s h j = first_skips (λ k. given m up entries c k j) (up c) (λ k u. given_skip k j u) s h
+  -- p is the next parent from k on, or n where there is none below n
+  pub given_next : {k n p : ℕ} → First (up c) k n p → (j : ℕ) → given m up entries c p j ≡ given m up entries c k j
+  given_next s j = first_skips (λ k. given m up entries c k j) (up c) (λ k u. given_skip k j u) s
 
-  pub row_next : {k n p lo hi : ℕ} {out : List ℕ} → First (up c) k 128 p → k ≤ n → Row lo hi (given m up entries c k) out → Row lo hi (given m up entries c (min p n)) out
-  row_next {n = n} {p = p} s h r = row_same (given m up entries c (min p n)) (λ j a b. sym (given_next s h j)) r
+  pub row_next : {k n p lo hi : ℕ} {out : List ℕ} → First (up c) k n p → Row lo hi (given m up entries c k) out → Row lo hi (given m up entries c p) out
+  row_next {p = p} s r = row_same (given m up entries c p) (λ j a b. sym (given_next s j)) r
 
   pub row_merge : (k : ℕ) {lo hi : ℕ} {out new : List ℕ} → up c k ≡ true → Row lo hi (given m up entries c k) out
       → Row lo hi (λ j. merged c (get_or out j 0) (get_or entries (k * m + j) 0)) new → Row lo hi (given m up entries c (k + 1)) new
@@ -71,46 +72,30 @@ module _ (m : ℕ) (up : ℕ → ℕ → Bool) (entries : List ℕ) (c : ℕ) wh
       (λ j a b. ap (λ (e : ℕ). merged c e (get_or entries (k * m + j) 0)) (r.at j a b) ∙ given_more k j u) s
 
   -- there is no parent
-  pub row_empty : (k : ℕ) {n p lo hi : ℕ} → k ≡ 64 → hi ≤ 64 → First (up c) 0 128 p → n ≤ p → Row lo hi (given m up entries c n) (replicate k 0)
-  row_empty k {n} {p} {lo} {hi} e h s l =
-      let all : min p n ≡ n = omega arith in
-      let r : Row lo hi (given m up entries c (min p n)) (replicate k 0) = row_next s (omega arith) (row_none k e h) in
-      rw all at r
+  pub row_empty : (k : ℕ) {n lo hi : ℕ} → k ≡ 64 → hi ≤ 64 → First (up c) 0 n n → Row lo hi (given m up entries c n) (replicate k 0)
+  row_empty k e h s = row_next s (row_none k e h)
 
   -- one parent more, k, where e is what those before it give
-  pub given_merge : (k j : ℕ) {n p e : ℕ} → up c k ≡ true → k < n → e ≡ given m up entries c (min k n) j → First (up c) (k + 1) 128 p
-      → merged c e (get_or entries (k * m + j) 0) ≡ given m up entries c (min p n) j
-  given_merge k j {n} u h is s =
-      let at : min k n ≡ k = omega arith in
-      ap (λ (e : ℕ). merged c e (get_or entries (k * m + j) 0)) (is ∙ ap (λ (i : ℕ). given m up entries c i j) at) ∙ given_more k j u ∙ sym (given_next s (omega arith) j)
+  pub given_merge : (k j : ℕ) {e : ℕ} → up c k ≡ true → e ≡ given m up entries c k j → merged c e (get_or entries (k * m + j) 0) ≡ given m up entries c (k + 1) j
+  given_merge k j u is = ap (λ (e : ℕ). merged c e (get_or entries (k * m + j) 0)) is ∙ given_more k j u
 
   -- p is the first parent
-  given_first : {n p : ℕ} → First (up c) 0 128 p → p < n → up c p ≡ true → (j : ℕ) → get_or entries (p * m + j) 0 ≡ given m up entries c (p + 1) j
-  given_first {n} {p} s h u j =
-      let at : p ≡ min p n = omega arith in
-      let none = ap (λ (k : ℕ). given m up entries c k j) at ∙ given_next s (omega arith) j ∙ given_zero j in
-      sym (merge_first c (get_or entries (p * m + j) 0)) ∙ ap (λ (e : ℕ). merged c e (get_or entries (p * m + j) 0)) (sym none) ∙ given_more p j u
+  given_first : {n p : ℕ} → First (up c) 0 n p → p < n → (j : ℕ) → get_or entries (p * m + j) 0 ≡ given m up entries c (p + 1) j
+  given_first {p = p} s h j =
+      sym (merge_first c (get_or entries (p * m + j) 0)) ∙ given_merge p j (s.found h) (sym (given_next s j ∙ given_zero j))
 
-  pub row_first : {n p lo hi : ℕ} {out : List ℕ} → First (up c) 0 128 p → p < n → up c p ≡ true
+  pub row_first : {n p lo hi : ℕ} {out : List ℕ} → First (up c) 0 n p → p < n
       → Row lo hi (λ j. get_or entries (p * m + j) 0) out → Row lo hi (given m up entries c (p + 1)) out
-  row_first {p = p} s h u r = row_same (given m up entries c (p + 1)) (λ j a b. given_first s h u j) r
+  row_first {p = p} s h r = row_same (given m up entries c (p + 1)) (λ j a b. given_first s h j) r
 
   -- p is the only parent
-  pub given_one : {n p q : ℕ} → First (up c) 0 128 p → p < n → up c p ≡ true → First (up c) (p + 1) 128 q → n ≤ q
-      → (j : ℕ) → get_or entries (p * m + j) 0 ≡ given m up entries c n j
-  given_one {n} {p} {q} s h u t l j =
-      let all : min q n ≡ n = omega arith in
-      given_first s h u j ∙ sym (given_next t (omega arith) j) ∙ ap (λ (k : ℕ). given m up entries c k j) all
+  pub given_one : {n p : ℕ} → First (up c) 0 n p → p < n → First (up c) (p + 1) n n → (j : ℕ) → get_or entries (p * m + j) 0 ≡ given m up entries c n j
+  given_one s h t j = given_first s h j ∙ sym (given_next t j)
 
   -- p and q are the only ones
-  pub given_two : {n p q r : ℕ} → First (up c) 0 128 p → p < n → up c p ≡ true → First (up c) (p + 1) 128 q → q < n → up c q ≡ true → First (up c) (q + 1) 128 r → n ≤ r
+  pub given_two : {n p q : ℕ} → First (up c) 0 n p → p < n → First (up c) (p + 1) n q → q < n → First (up c) (q + 1) n n
       → (j : ℕ) → merged c (get_or entries (p * m + j) 0) (get_or entries (q * m + j) 0) ≡ given m up entries c n j
-  given_two {n} {p} {q} {r} s h u t h' u' v l j =
-      let here : min q n ≡ q = omega arith in
-      let all : min r n ≡ n = omega arith in
-      ap (λ (e : ℕ). merged c e (get_or entries (q * m + j) 0))
-      (given_first s h u j ∙ sym (given_next t (omega arith) j) ∙ ap (λ (k : ℕ). given m up entries c k j) here)
-      ∙ given_more q j u' ∙ sym (given_next v (omega arith) j) ∙ ap (λ (k : ℕ). given m up entries c k j) all
+  given_two {q = q} s h t h' v j = given_merge q j (t.found h') (given_first s h j ∙ sym (given_next t j)) ∙ sym (given_next v j)
 
   module _ (n : ℕ) (rules : List ℕ) where
     abbrev lefts : ℕ → ℕ → Bool
@@ -129,7 +114,7 @@ module _ (m : ℕ) (up : ℕ → ℕ → Bool) (entries : List ℕ) (c : ℕ) wh
         go false = refl
 
 -- .. and where the parents differ, what is prepared decides
-module _ {n m : ℕ} {rows rules order reach places : List ℕ} (p : Prepared n m rows rules order reach places) (most : n ≤ 128) (entries : List ℕ) (c : ℕ) (c<n : c < n) where
+module _ {n m : ℕ} {rows : Relation} {rules order : List ℕ} {reach places : Relation} (p : Prepared n m rows rules order reach places) (most : n ≤ 128) (entries : List ℕ) (c : ℕ) (c<n : c < n) where
   step_decided : (j : ℕ) → j < m
       → apart c (ruled c (get_or rules (c * m + j) 0) (given m (bit rows) entries c n j)) (deciding order reach places c j) ≡ stepped n m (bit rows) rules entries c j
   step_decided j h = let rule = get_or rules (c * m + j) 0 in
@@ -139,11 +124,9 @@ module _ {n m : ℕ} {rows rules order reach places : List ℕ} (p : Prepared n 
       ∙ given_own m (bit rows) entries c n rules j
 
   -- e is what all parents give
-  pub step_done : (j : ℕ) {q e : ℕ} → j < m → e ≡ given m (bit rows) entries c (min q n) j → n ≤ q
+  pub step_done : (j : ℕ) {e : ℕ} → j < m → e ≡ given m (bit rows) entries c n j
       → apart c (ruled c (get_or rules (c * m + j) 0) e) (deciding order reach places c j) ≡ stepped n m (bit rows) rules entries c j
-  step_done j {q} h is l =
-      let all : min q n ≡ n = omega arith in
-      ap (λ (e : ℕ). apart c (ruled c (get_or rules (c * m + j) 0) e) (deciding order reach places c j)) (is ∙ ap (λ (k : ℕ). given m (bit rows) entries c k j) all) ∙ step_decided j h
+  step_done j h is = ap (λ (e : ℕ). apart c (ruled c (get_or rules (c * m + j) 0) e) (deciding order reach places c j)) is ∙ step_decided j h
 
   pub row_decided : {lo hi : ℕ} {mid new : List ℕ} → hi ≤ m → Row lo hi (λ j. ruled c (get_or rules (c * m + j) 0) (given m (bit rows) entries c n j)) mid
       → Row lo hi (λ j. apart c (get_or mid j 0) (deciding order reach places c j)) new → Row lo hi (stepped n m (bit rows) rules entries c) new

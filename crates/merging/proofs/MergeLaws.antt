@@ -14,8 +14,8 @@ use Rattle.inheritance.specs.declared.Lookup.TheVariants.{None}
 use Rattle.inheritance.specs.Lookup.{same, join}
 use Rattle.inheritance.proofs.AboveLaws.{or_cases}
 use Rattle.inheritance.proofs.MeetLaws.{same_true, join_none, join_same, join_differ}
-use Rattle.tables.specs.Entry.{entry_of, lookup_of}
-use Rattle.tables.proofs.EntryLaws.{entry_lookup}
+use Rattle.inheritance.specs.Entry.{entry_of, lookup_of}
+use Rattle.inheritance.proofs.EntryLaws.{entry_lookup}
 use Rattle.merging.specs.Merged.{merged, ruled}
 
 neither : (s t : Bool) → (s || t) ≡ false → (s ≡ false) × (t ≡ false)

@@ -19,9 +19,9 @@ use Rattle.inheritance.specs.Checked.{kind}
 use Rattle.inheritance.specs.Lookup.{same, passing, decided}
 use Rattle.inheritance.specs.Step.{narrowed}
 use Rattle.inheritance.proofs.MeetLaws.{same_true, same_refl}
-use Rattle.tables.specs.Entry.{entry_of, lookup_of}
+use Rattle.inheritance.specs.Entry.{entry_of, lookup_of}
 use Rattle.tables.proofs.TableLaws.{below_suc, below_true, true_below}
-use Rattle.tables.proofs.EntryLaws.{entry_lookup, coded_dispute}
+use Rattle.inheritance.proofs.EntryLaws.{entry_lookup, coded_dispute}
 use Rattle.deciding.specs.Deciding.{apart}
 use Rattle.deciding.proofs.ApartLaws.{apart_at, apart_keeps}
 use Rattle.deciding.specs.Row.{Row}

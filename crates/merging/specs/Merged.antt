@@ -9,7 +9,7 @@
 use Rattle.std.specs.Prelude.{Bool, true, false, ◌||◌, not, List, ℕ, ◌+◌, ◌≤◌, eqb, ltb}
 use Rattle.inheritance.specs.Lookup.{join, meet, passing}
 use Rattle.inheritance.specs.Step.{narrowed}
-use Rattle.tables.specs.Entry.{entry_of, lookup_of}
+use Rattle.inheritance.specs.Entry.{entry_of, lookup_of}
 use Rattle.tables.specs.Step.{read}
 use Rattle.tables.specs.Tables.{all_below}
 

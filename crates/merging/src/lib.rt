@@ -8,8 +8,7 @@ ghost use Rattle.deciding.specs.Row.{Row};
 ghost use Rattle.merging.specs.Merged.{merged, ruled, given, agreed, MarkRange};
 
 use inheritance::Lookup;
-use relation::next;
-use tables::decode;
+use relation::Relation;
 
 // One more parent's entry b, folded into a, what the parents so far give kind c: another rule than that of b, or another
 // dispute, differs from it.
@@ -17,7 +16,7 @@ pub fn merge(c: u16, a: u16, b: u16) -> u16
     requires { c < 128 }
     ensures { result ≡ merged c a b }
 {
-    match decode(b) {
+    match Lookup::from(b) {
         Lookup::None => a,
         Lookup::Rule(k) => {
             if (a == 0) | (a == k.0 + 1) {
@@ -50,9 +49,8 @@ fn take_row(m: usize, lo: usize, hi: usize, p: usize, entries: &[u16], out: &mut
     requires mark_range { MarkRange m lo hi }
     ensures { Row lo hi (λ j. get_or entries.now (p * m + j) 0) out.new }
 {
-    for j in lo..hi {
-        out[j] = entries[p * m + j];
-    }
+    let row = p * m;
+    out[lo..hi].copy_from_slice(&entries[row + lo..row + hi]);
 }
 
 // The entries of parent p are folded into those of kind c.
@@ -85,7 +83,7 @@ pub fn own_row(c: usize, m: usize, lo: usize, hi: usize, rules: &[u16], out: &mu
 
 // What the parents of kind c give it.
 pub fn merge_parents(
-    rows: &[u64; 256],
+    rows: &Relation,
     n: usize,
     m: usize,
     lo: usize,
@@ -98,15 +96,13 @@ pub fn merge_parents(
     requires mark_range { MarkRange m lo hi }
     ensures { Row lo hi (given m (bit rows.now) entries.now c n) out.new }
 {
-    let first = next(rows, c, 0);
-    if first >= n {
+    let mut rest = rows.row(c);
+    let Some(first) = rest.take_first(n) else {
         *out = [0u16; 64];
         return;
-    }
+    };
     take_row(m, lo, hi, first, entries, out);
-    let mut p = next(rows, c, first + 1);
-    while p < n {
+    while let Some(p) = rest.take_first(n) {
         merge_row(c as u16, m, lo, hi, p, entries, out);
-        p = next(rows, c, p + 1);
     }
 }

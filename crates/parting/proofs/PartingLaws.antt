@@ -1,23 +1,22 @@
 -- The kinds left, gathered place after place, and the two lowest of them.
 --     orderly                                   the order of what is prepared
---     bit_hide                                  what a bit is after a row of reach is joined into row 1
---     taken_mark, taken_skip                    a place is taken, whose kind is left, or is not
+--     taken_above                               a row of reach is joined to a set
 --     gathered_none, gathered_take, gathered_skip     no place is gone through; one more that is common, and one that is not
---     gathered_left                             after the last place row 0 has the kinds left
+--     gathered_left                             after the last place the set has the kinds left
 --     pair_none, pair_one, pair_two             the two lowest, as code finds them: there is none, there is one, there are two
 -- Assumes nothing.
 use mathlib.Core.Path.{◌≡◌, refl, sym, ◌∙◌, ap, ap₂, subst}
 use mathlib.Core.Logic.{inr, ⊎_elim, ◌↔◌, by_cases}
-use mathlib.Core.Bool.{Bool, true, false, ◌&&◌, ◌||◌, not, true≢false, and-eq-true_iff, not-eq-not, or_assoc, or-false, and-false, and-true}
+use mathlib.Core.Bool.{Bool, true, false, ◌&&◌, ◌||◌, not, true≢false, and-eq-true_iff, not-eq-not, or-false, and-false}
 use mathlib.Core.List.{List, [], ◌∷◌, ◌++◌}
-use Prim.Native.Nat.{ℕ, zero, suc, ◌+◌, ◌*◌, ◌/◌, ◌%◌, ◌<◌, ◌≤◌, zero-le}
+use Prim.Native.Nat.{ℕ, zero, suc, ◌+◌, ◌<◌, ◌≤◌, zero-le}
 use native.Mathlib.Nat.{not-suc-le-zero}
 use native.Mathlib.Decide.{dec_lt}
 use native.Mathlib.Numerals.{add-one}
 use native.Mathlib.Omega.{arith}
 use borrow.Author.Tests.{eq-eqb, eqb-true, lt-ltb, le-ltb, not-true}
 use lib.Dec.{eqb, ltb}
-use lib.ListN.{length, get_or, length-set}
+use lib.ListN.{get_or}
 use Rattle.inheritance.specs.Above.{Chain}
 use Rattle.inheritance.specs.Checked.{kind}
 use Rattle.inheritance.specs.Lookup.{some_below, least, left, passing}
@@ -26,42 +25,30 @@ use Rattle.inheritance.proofs.Bools.{same_bool}
 use Rattle.inheritance.proofs.LeftLaws.{some_true, true_some, least_test}
 use Rattle.inheritance.proofs.NearLaws.{Near, near, near_test, left_near}
 use Rattle.arranging.specs.Arranged.{Arranged}
-use Rattle.relation.specs.Bit.{on, bit, Blank, Added}
+use Rattle.relation.specs.declared.KindSet.{KindSet}
+use Rattle.relation.specs.declared.Relation.{Relation}
+use Rattle.relation.specs.Bit.{bit, holds, none_of, row_of, Gains}
 use Rattle.relation.specs.First.{First}
-use Rattle.relation.proofs.BitLaws.{or_into, bit_or_into, two_words}
 use Rattle.relation.proofs.Bools.{one_more}
-use Rattle.tables.specs.declared.Pair.{Pair}
+use Rattle.std.specs.Prelude.{Result}
+use Rattle.relation.proofs.Zeros.{holds_none}
 use Rattle.tables.specs.declared.Refusal.{Refusal}
 use Rattle.tables.specs.Tables.{own_of}
 use Rattle.deciding.specs.Deciding.{Prepared, common}
-use Rattle.parting.specs.Parting.{Orderly, hidden, LeftGathered, pair_of}
+use Rattle.parting.specs.Parting.{Orderly, hidden, LeftKinds, LeftGathered, pair_of}
 use Rattle.deciding.proofs.DecidingLaws.{reach_upto, both_near, near_place}
 
-pub orderly : {n m : ℕ} {rows rules order reach ruled : List ℕ} → Prepared n m rows rules order reach ruled → Orderly n order
+pub orderly : {n m : ℕ} {rows : Relation} {rules order : List ℕ} {reach ruled : Relation} → Prepared n m rows rules order reach ruled → Orderly n order
 orderly p = record { kinds = p.arranged.kinds; once = p.arranged.once }
 
-pub bit_hide : (reach left : List ℕ) (o d q : ℕ) → length left ≡ 256 → q < 128
-    → let first = or_into left 2 (get_or reach (2 * o) 0) in
-    bit (or_into first 3 (get_or reach (2 * o + 1) 0)) d q ≡ (bit left d q || (eqb d 1 && bit reach o q))
+-- a row of reach, as a set, is joined to the places gone through
+pub taken_above : (reach : Relation) (o : ℕ) {row old new : KindSet} → row ≡ row_of reach o → Gains old new (holds row) → Gains old new (bit reach o)
 unfolding bit
-bit_hide reach left o d q l h =
-    let first = or_into left 2 (get_or reach (2 * o) 0) in
-    bit_or_into first 3 (get_or reach (2 * o + 1) 0) d q (simp length-set (omega arith))
-    ∙ ap (λ (t : Bool). t || (eqb (2 * d + q / 64) 3 && on (get_or reach (2 * o + 1) 0) (q % 64))) (bit_or_into left 2 (get_or reach (2 * o) 0) d q (omega arith))
-    ∙ two_words (bit left d q) reach 1 o d (q / 64) (q % 64) (omega arith)
-
--- a place is taken: row 1 has it, or has not
-module _ (reach : List ℕ) (o i : ℕ) {old mid new : List ℕ} (b : Added mid new (λ d q. eqb d 1 && bit reach o q)) where
-  pub taken_mark : bit old 1 i ≡ false → Added old mid (λ d q. eqb d 0 && eqb q o)
-      → Added old new (λ d q. (eqb d 0 && (eqb q o && not (bit old 1 i))) || (eqb d 1 && bit reach o q))
-  taken_mark off a = record { long = b.long; bits = λ d q h. b.bits d q h ∙ rw (a.bits d q h, off, and-true) (or_assoc (bit old d q) _ _) }
-
-  pub taken_skip : bit old 1 i ≡ true → mid ≡ old → Added old new (λ d q. (eqb d 0 && (eqb q o && not (bit old 1 i))) || (eqb d 1 && bit reach o q))
-  taken_skip on e = record { long = b.long; bits = λ d q h. b.bits d q h ∙ rw (e, on, and-false, and-false) refl }
+taken_above reach o {old = old} is a = record { each = λ q h. a.each q h ∙ ap (λ (s : KindSet). holds old q || holds s q) is }
 
 -- ---- place after place
 
-module _ (order reach ruled : List ℕ) (c j : ℕ) where
+module _ (order : List ℕ) (reach ruled : Relation) (c j : ℕ) where
   abbrev both : ℕ → Bool
   both = common reach ruled c j
 
@@ -73,15 +60,14 @@ module _ (order reach ruled : List ℕ) (c j : ℕ) where
   hidden_more k i = rw (add-one k) refl
 
   module _ (n : ℕ) (o : Orderly n order) where
-    abbrev Ga : ℕ → List ℕ → Type 0
-    Ga i new = LeftGathered n order reach ruled c j i new
+    abbrev Ga : ℕ → (set above : KindSet) → Type 0
+    Ga i set above = LeftGathered n order reach ruled c j i set above
 
-    pub gathered_none : {rows : List ℕ} → Blank rows → Ga 0 rows
+    pub gathered_none : Ga 0 none_of none_of
     unfolding hidden some_below
-    gathered_none b = record {
-      long = b.long;
-      kinds = λ i h. b.none 0 (get_or order i 0) ∙ sym (rw (le-ltb i 0 zero-le) refl);
-      places = λ q h. b.none 1 q;
+    gathered_none = record {
+      kinds = λ k h. holds_none (get_or order k 0) ∙ sym (rw (le-ltb k 0 zero-le) refl);
+      places = λ q h. holds_none q;
     }
 
     abbrev at : ℕ → ℕ
@@ -94,22 +80,21 @@ module _ (order reach ruled : List ℕ) (c j : ℕ) where
     same_place : (k i : ℕ) → k < n → i < n → eqb (at k) (at i) ≡ eqb k i
     same_place k i h l = same_bool _ _ (λ t. eq-eqb k i (o.once k i h l (eqb-true _ _ t))) (λ t. eq-eqb _ _ (ap at (eqb-true k i t)))
 
-    pub gathered_take : (i : ℕ) {old new : List ℕ} → n ≤ 128 → i < n → both i ≡ true
-        → Added old new (λ d q. (eqb d 0 && (eqb q (get_or order i 0) && not (bit old 1 i))) || (eqb d 1 && bit reach (get_or order i 0) q)) → Ga i old → Ga (i + 1) new
-    gathered_take i {old} {new} most h is a s = record {
-      long = a.long;
+    pub gathered_take : (i : ℕ) {set above set' above' : KindSet} → n ≤ 128 → i < n → both i ≡ true
+        → Gains set set' (λ q. eqb q (get_or order i 0) && not (holds above i)) → Gains above above' (bit reach (get_or order i 0))
+        → Ga i set above → Ga (i + 1) set' above'
+    gathered_take i {above = above} most h is a a' s = record {
       kinds = λ k l. let b = o.kinds k l in
-          a.bits 0 (at k) (omega arith) ∙ ap₂ ◌||◌ (s.kinds k l) (or-false _ ∙ ap₂ ◌&&◌ (same_place k i l h) here) ∙ one_more alone k i;
-      places = λ q l. a.bits 1 q l ∙ ap (λ (t : Bool). t || bit reach (at i) q) (s.places q l)
+          a.each (at k) (omega arith) ∙ ap₂ ◌||◌ (s.kinds k l) (ap₂ ◌&&◌ (same_place k i l h) here) ∙ one_more alone k i;
+      places = λ q l. a'.each q l ∙ ap (λ (t : Bool). t || bit reach (at i) q) (s.places q l)
           ∙ ap (λ (t : Bool). over i q || (t && bit reach (at i) q)) (sym is) ∙ sym (hidden_more i q);
     }
       where
-        here : not (bit old 1 i) ≡ alone i
+        here : not (holds above i) ≡ alone i
         here = ap not (s.places i (omega arith)) ∙ ap (λ (t : Bool). t && not (over i i)) (sym is)
 
-    pub gathered_skip : (i : ℕ) {old : List ℕ} → i < n → both i ≡ false → Ga i old → Ga (i + 1) old
+    pub gathered_skip : (i : ℕ) {set above : KindSet} → i < n → both i ≡ false → Ga i set above → Ga (i + 1) set above
     gathered_skip i h off s = record {
-      long = s.long;
       kinds = λ k l. s.kinds k l ∙ sym (or-false _) ∙ ap (λ (t : Bool). (ltb k i && alone k) || t) (sym (and-false (eqb k i)) ∙ ap (λ (t : Bool). eqb k i && t) none) ∙ one_more alone k i;
       places = λ q l. s.places q l ∙ sym (or-false _) ∙ ap (λ (t : Bool). over i q || (t && bit reach (at i) q)) (sym off) ∙ sym (hidden_more i q);
     }
@@ -117,12 +102,12 @@ module _ (order reach ruled : List ℕ) (c j : ℕ) where
         none : false ≡ alone i
         none = ap (λ (t : Bool). t && not (over i i)) (sym off)
 
-  pub gathered_left : {n m : ℕ} {rows rules new : List ℕ} → Prepared n m rows rules order reach ruled → n ≤ 128 → c < n → j < m → LeftGathered n order reach ruled c j n new
-      → (x : ℕ) → x < n → bit new 0 x ≡ left n (bit rows) (own_of m rules j) c x
+  pub gathered_left : {n m : ℕ} {rows : Relation} {rules : List ℕ} (set : KindSet) → Prepared n m rows rules order reach ruled → n ≤ 128 → c < n → j < m
+      → LeftKinds n order reach ruled c j n set → (x : ℕ) → x < n → holds set x ≡ left n (bit rows) (own_of m rules j) c x
   unfolding hidden
-  gathered_left {n} {m} {rows} {rules} {new} p most hc hj s x hx =
+  gathered_left {n} {m} {rows} {rules} set p most hc hj s x hx =
       let (k, l, e) = a.each x hx in
-      subst (λ (y : ℕ). bit new 0 y ≡ left n (bit rows) own c y) e (s.kinds k l ∙ ap (λ (t : Bool). t && (both k && not (some_below (λ q. both q && bit reach (get_or order q 0) k) k))) (lt-ltb k n l) ∙ same k l ∙ sym (left_near n (bit rows) own c hc (at k) (a.kinds k l)))
+      subst (λ (y : ℕ). holds set y ≡ left n (bit rows) own c y) e (s k l ∙ ap (λ (t : Bool). t && (both k && not (some_below (λ q. both q && bit reach (get_or order q 0) k) k))) (lt-ltb k n l) ∙ same k l ∙ sym (left_near n (bit rows) own c hc (at k) (a.kinds k l)))
     where
       a : Arranged n rows order reach
       a = p.arranged
@@ -193,23 +178,23 @@ passing_head f a (suc k) l is none = ⊎_elim here (λ less. there less (passing
     there less e = ap₂ (λ (xs : List ℕ) (b : Bool). xs ++ last b) e (sym (ap (λ (t : Bool). t && f k) (lt-ltb a k less)))
 
 module _ (f g : ℕ → Bool) (n : ℕ) (same : (i : ℕ) → i < n → g i ≡ f i) where
-  gone : {from r : ℕ} → First g from 128 r → (i : ℕ) → from ≤ i → i < r → i < n → f i ≡ false
-  gone s i a b h = sym (same i h) ∙ s.none i a b
+  gone : {from r : ℕ} → First g from n r → (i : ℕ) → from ≤ i → i < r → f i ≡ false
+  gone s i a b = sym (same i (omega (arith, s.high))) ∙ s.none i a b
 
-  pub pair_none : {a : ℕ} → First g 0 128 a → n ≤ a → Pair.Refused Refusal.NoDispute ≡ pair_of (passing f n)
-  pair_none s l = sym (ap pair_of (passing_none f n (λ i h. gone s i (omega arith) (omega arith) h)))
+  pub pair_none : First g 0 n n → Result.Err Refusal.NoDispute ≡ pair_of (passing f n)
+  pair_none s = sym (ap pair_of (passing_none f n (λ i h. gone s i (omega arith) h)))
 
-  module _ {a b : ℕ} (s : First g 0 128 a) (a<n : a < n) (most : n ≤ 128) (t : First g (a + 1) 128 b) where
+  module _ {a b : ℕ} (s : First g 0 n a) (a<n : a < n) (t : First g (a + 1) n b) where
     head : passing f n ≡ a ∷ passing (past f a) n
-    head = passing_head f a n a<n (sym (same a a<n) ∙ s.found (omega arith)) (λ i h. gone s i (omega arith) h (omega arith))
+    head = passing_head f a n a<n (sym (same a a<n) ∙ s.found a<n) (λ i h. gone s i (omega arith) h)
 
-    off : (i : ℕ) → i < b → i < n → past f a i ≡ false
-    off i h l = by_cases (dec_lt a i) (λ less. rw (lt-ltb a i less) (gone t i (omega arith) h l)) (λ more. past_off f a i (omega arith))
+    off : (i : ℕ) → i < b → past f a i ≡ false
+    off i h = by_cases (dec_lt a i) (λ less. rw (lt-ltb a i less) (gone t i (omega arith) h)) (λ more. past_off f a i (omega arith))
 
-    pub pair_one : n ≤ b → Pair.Refused Refusal.NoDispute ≡ pair_of (passing f n)
-    pair_one l = sym (ap pair_of (head ∙ ap (λ (xs : List ℕ). a ∷ xs) (passing_none (past f a) n (λ i h. off i (omega arith) h))))
+    pub pair_one : b ≡ n → Result.Err Refusal.NoDispute ≡ pair_of (passing f n)
+    pair_one e = sym (ap pair_of (head ∙ ap (λ (xs : List ℕ). a ∷ xs) (passing_none (past f a) n (λ i h. off i (omega arith)))))
 
-    pub pair_two : b < n → Pair.Kinds (kind a) (kind b) ≡ pair_of (passing f n)
+    pub pair_two : b < n → Result.Ok (kind a, kind b) ≡ pair_of (passing f n)
     pair_two l =
-        let is : past f a b ≡ true = rw (lt-ltb a b (omega (arith, t.low))) (sym (same b l) ∙ t.found (omega arith)) in
-        sym (ap pair_of (head ∙ ap (λ (xs : List ℕ). a ∷ xs) (passing_head (past f a) b n l is (λ i h. off i h (omega arith)))))
+        let is : past f a b ≡ true = rw (lt-ltb a b (omega (arith, t.low))) (sym (same b l) ∙ t.found l) in
+        sym (ap pair_of (head ∙ ap (λ (xs : List ℕ). a ∷ xs) (passing_head (past f a) b n l is (λ i h. off i h))))

@@ -6,29 +6,27 @@
 ghost use Rattle.std.specs.Prelude.{◌<◌, ◌≤◌};
 ghost use Rattle.propagation.specs.Spread.{under, stop, Ready, Walked, Touched};
 
-use relation::next;
+use relation::{KindSet, Relation};
 
-// Visits k and, from it, each kind below n of its row that is not visited yet and is no stop, and so on.
-fn spread(onward: &[u64; 256], n: usize, stops: &[u8; 128], k: usize, visited: &mut [u8; 128])
-    requires { Ready n k visited.old }
-    ensures { Walked n (under onward.now) (stop stops.now) k visited.old visited.new }
+// Visits k and, from it, each kind below n of its row that is not visited yet and is no stop, and so on. The kinds visited then.
+fn spread(onward: &Relation, n: usize, stops: KindSet, k: usize, before: KindSet) -> KindSet
+    requires { Ready n k before }
+    ensures { Walked n (under onward.now) (stop stops) k before result }
 {
-    visited[k] = 1;
-    let mut c = next(onward, k, 0);
-    while c < n {
-        if (visited[c] == 0) & (stops[c] == 0) {
-            spread(onward, n, stops, c, visited);
+    let mut rest = onward.row(k);
+    let mut visited = before.with(k);
+    while let Some(c) = rest.take_first(n) {
+        if !visited.contains(c) & !stops.contains(c) {
+            visited = spread(onward, n, stops, c, visited);
         }
-        c = next(onward, k, c + 1);
     }
+    visited
 }
 
-// Visits exactly the kinds that an edit at e can touch, whatever was visited before. A kind is a stop where its byte is not
-// 0: the walk does not come to it.
-pub fn touched(onward: &[u64; 256], n: usize, stops: &[u8; 128], e: usize, visited: &mut [u8; 128])
+/// Exactly the kinds that an edit at e can touch. The walk does not come to a stop.
+pub fn touched(onward: &Relation, n: usize, stops: KindSet, e: usize) -> KindSet
     requires { (e < n) × (n ≤ 128) }
-    ensures { Touched n (under onward.now) (stop stops.now) e visited.new }
+    ensures { Touched n (under onward.now) (stop stops) e result }
 {
-    *visited = [0u8; 128];
-    spread(onward, n, stops, e, visited);
+    spread(onward, n, stops, e, KindSet::EMPTY)
 }

@@ -1,27 +1,34 @@
--- The laws of `bit`, for stores that add bits or take them out.
+-- The laws of `on`, `holds` and `bit`, for what adds kinds to a set or takes them out.
 --     on_or, on_and, on_without       bits added to a word; those of two words; bits taken out of one
---     or_into, without_into           the word i of the list, with v's bits added; without v's bits
---     bit_or_into, bit_without_into   what a bit is after it
---     marked, unmarked                one bit is added, or taken out: kind p, in row c
---     two_words                       a word of a row, after the words of a row are added to those of another
 --     and_one                         a word's lowest bit, as code reads it
+--     holds_low, holds_high           a kind's bit, in the low word and in the high one
+--     gains_low, gains_high           bits are added to a set's low word, or to its high one
+--     loses_low, loses_high           .. are taken out of it
+--     with_low, with_high             one kind is added
+--     without_low, without_high       .. is taken out
+--     gains_all, shared_all           those of another set are added; those that both have
+--     holds_row, row_set              a row as a set; a set in place of a row
+--     added_row, removed_row          a row that gains, or loses, in its relation
+--     row_same, row_other             a row that was replaced, and the others
 -- Assumes nothing.
 use mathlib.Core.Path.{◌≡◌, refl, sym, ap, ◌∙◌}
-use mathlib.Core.Logic.{◌≢◌}
+use mathlib.Core.Logic.{◌≢◌, by_cases}
 use mathlib.Core.Bool.{Bool, true, false, ◌&&◌, ◌||◌, not, xor, or-false, and-true}
-use mathlib.Core.List.{List}
 use Prim.Native.Nat.{ℕ, zero, suc, ◌+◌, ◌-◌, ◌*◌, ◌/◌, ◌%◌, ◌^◌, ◌<◌, ◌≤◌, max, min}
-use native.Mathlib.Nat.{mul-add-mod_self_right, mul-mod_left, mod-eq_of_lt, div-eq_of_lt, div_self, pow-suc, one-mul, add-zero}
+use native.Mathlib.Nat.{mul-add-mod_self_right, mul-mod_left, mod-eq_of_lt, div-eq_of_lt, div_self, pow-suc, one-mul}
+use native.Mathlib.Decide.{dec_lt}
 use native.Mathlib.Omega.{arith}
-use borrow.Author.Tests.{ne_eqb, eqb-true, eqb-false, ltb-true, ltb-false}
+use borrow.Author.Tests.{eq-eqb, ne_eqb, eqb-true, eqb-false, lt-ltb, le-ltb, ltb-true, ltb-false}
 use lib.Dec.{eqb, ltb}
-use lib.ListN.{get_or, set, length, length-set}
+use lib.ListN.{set, length}
+use Rattle.std.specs.Prelude.{if◌then◌else◌}
 use lib.Seq.{get_or-set_same, get_or-set_other}
 use lib.Bits.{bit_and, bit_or, bit_xor, differ, or_step, or_shr, and_step, and_shr, xor_step, xor_shr, and_mask}
 use lib.Pow.{pow_pos, pow-lt, pow-add, shl-shr}
-use Rattle.relation.specs.Bit.{on, bit, Added, Removed}
-use Rattle.inheritance.proofs.Bools.{same_bool}
-use Rattle.relation.proofs.Bools.{same_test, both_eqb, eqb_both}
+use Rattle.relation.specs.declared.KindSet.{KindSet}
+use Rattle.relation.specs.declared.Relation.{Relation}
+use Rattle.relation.specs.Bit.{on, holds, bit, none_of, row_of, Gains, Loses, Shared, Added, Removed, RowSet}
+use Rattle.relation.proofs.Bools.{same_test}
 
 -- ---- one word
 
@@ -113,84 +120,140 @@ on_power j k = go (eqb k j) refl (ltb k j) refl
 pub and_one : (x : ℕ) → bit_and x 1 ≡ x % 2
 and_one x = and_mask x 1
 
--- ---- the list of words
+-- ---- the two words of a set
 
--- a store that goes by g on each bit of the word i and of v
-module _ (g : Bool → Bool → Bool) (keep : (b : Bool) → g b false ≡ b) (rows : List ℕ) (i v w : ℕ) (h : i < length rows)
-    (word : (k : ℕ) → on w k ≡ g (on (get_or rows i 0) k) (on v k)) where
-  word_into : (j k : ℕ) → on (get_or (set rows i w) j 0) k ≡ g (on (get_or rows j 0) k) (eqb j i && on v k)
-  word_into j k = go (eqb j i) refl
-    where
-      go : (t : Bool) → eqb j i ≡ t → on (get_or (set rows i w) j 0) k ≡ g (on (get_or rows j 0) k) (t && on v k)
-      go true e = rw (eqb-true j i e, get_or-set_same) (word k)
-      go false e = rw (get_or-set_other rows i j w 0 (eqb-false j i e)) (sym (keep (on (get_or rows j 0) k)))
+module _ (s : KindSet) where
+  pub holds_low : (q : ℕ) → q < 64 → holds s q ≡ on s.low q
+  unfolding holds
+  holds_low q h = let place : q % 64 ≡ q = omega arith in rw (lt-ltb q 64 h, place) refl
 
-  bit_into : (d q : ℕ) → bit (set rows i w) d q ≡ g (bit rows d q) (eqb (2 * d + q / 64) i && on v (q % 64))
-  unfolding bit
-  bit_into d q = word_into (2 * d + q / 64) (q % 64)
+  pub holds_high : (q : ℕ) → 64 ≤ q → q < 128 → holds s q ≡ on s.high (q - 64)
+  unfolding holds
+  holds_high q h l = let place : q % 64 ≡ q - 64 = omega arith in rw (le-ltb q 64 h, place) refl
 
-abbrev pub or_into : List ℕ → ℕ → ℕ → List ℕ
-or_into rows i v = set rows i (bit_or (get_or rows i 0) v)
+-- a word that goes by g on each of its bits and of those of v, in a set that goes by g on each of its kinds and of those of f
+module _ (g : Bool → Bool → Bool) (keep : (b : Bool) → g b false ≡ b) (s : KindSet) (v w : ℕ) (f : ℕ → Bool) where
+  low_by : ((k : ℕ) → on w k ≡ g (on s.low k) (on v k)) → ((q : ℕ) → q < 64 → on v q ≡ f q) → ((q : ℕ) → 64 ≤ q → q < 128 → f q ≡ false)
+      → (q : ℕ) → q < 128 → holds (record { low = w; high = s.high }) q ≡ g (holds s q) (f q)
+  low_by word here off q h = by_cases (dec_lt q 64)
+      (λ low. holds_low (record { low = w; high = s.high }) q low ∙ word q ∙ ap (g (on s.low q)) (here q low) ∙ ap (λ (t : Bool). g t (f q)) (sym (holds_low s q low)))
+      (λ high.
+      let l : 64 ≤ q = omega arith in
+      holds_high (record { low = w; high = s.high }) q l h ∙ sym (holds_high s q l h) ∙ sym (keep (holds s q)) ∙ ap (g (holds s q)) (sym (off q l h)))
 
-pub bit_or_into : (rows : List ℕ) (i v d q : ℕ) → i < length rows
-    → bit (or_into rows i v) d q ≡ (bit rows d q || (eqb (2 * d + q / 64) i && on v (q % 64)))
-bit_or_into rows i v d q h = bit_into ◌||◌ or-false rows i v _ h (on_or (get_or rows i 0) v) d q
+  high_by : ((k : ℕ) → on w k ≡ g (on s.high k) (on v k)) → ((q : ℕ) → 64 ≤ q → q < 128 → on v (q - 64) ≡ f q) → ((q : ℕ) → q < 64 → f q ≡ false)
+      → (q : ℕ) → q < 128 → holds (record { low = s.low; high = w }) q ≡ g (holds s q) (f q)
+  high_by word here off q h = by_cases (dec_lt q 64)
+      (λ low. holds_low (record { low = s.low; high = w }) q low ∙ sym (holds_low s q low) ∙ sym (keep (holds s q)) ∙ ap (g (holds s q)) (sym (off q low)))
+      (λ high.
+      let l : 64 ≤ q = omega arith in
+      holds_high (record { low = s.low; high = w }) q l h ∙ word (q - 64) ∙ ap (g (on s.high (q - 64))) (here q l h) ∙ ap (λ (t : Bool). g t (f q)) (sym (holds_high s q l h)))
 
-abbrev pub without_into : List ℕ → ℕ → ℕ → List ℕ
-without_into rows i v = set rows i (without (get_or rows i 0) v)
+module _ (s : KindSet) (v : ℕ) (f : ℕ → Bool) where
+  pub gains_low : ((q : ℕ) → q < 64 → on v q ≡ f q) → ((q : ℕ) → 64 ≤ q → q < 128 → f q ≡ false) → Gains s (record { low = bit_or s.low v; high = s.high }) f
+  gains_low here off = record { each = low_by ◌||◌ or-false s v _ f (on_or s.low v) here off }
 
-pub bit_without_into : (rows : List ℕ) (i v d q : ℕ) → i < length rows
-    → bit (without_into rows i v) d q ≡ (bit rows d q && not (eqb (2 * d + q / 64) i && on v (q % 64)))
-bit_without_into rows i v d q h = bit_into (λ s t. s && not t) and-true rows i v _ h (on_without (get_or rows i 0) v) d q
+  pub gains_high : ((q : ℕ) → 64 ≤ q → q < 128 → on v (q - 64) ≡ f q) → ((q : ℕ) → q < 64 → f q ≡ false) → Gains s (record { low = s.low; high = bit_or s.high v }) f
+  gains_high here off = record { each = high_by ◌||◌ or-false s v _ f (on_or s.high v) here off }
 
--- ---- one bit, and one row
+  pub loses_low : ((q : ℕ) → q < 64 → on v q ≡ f q) → ((q : ℕ) → 64 ≤ q → q < 128 → f q ≡ false) → Loses s (record { low = without s.low v; high = s.high }) f
+  loses_low here off = record { each = low_by (λ a b. a && not b) and-true s v _ f (on_without s.low v) here off }
+
+  pub loses_high : ((q : ℕ) → 64 ≤ q → q < 128 → on v (q - 64) ≡ f q) → ((q : ℕ) → q < 64 → f q ≡ false) → Loses s (record { low = s.low; high = without s.high v }) f
+  loses_high here off = record { each = high_by (λ a b. a && not b) and-true s v _ f (on_without s.high v) here off }
+
+-- ---- one kind
 
 one_bit : (k : ℕ) → k < 64 → (1 * 2 ^ k) % 2 ^ 64 ≡ 2 ^ k
 one_bit k h = ap (λ (x : ℕ). x % 2 ^ 64) (one-mul (2 ^ k)) ∙ mod-eq_of_lt (pow-lt h)
 
-same_place : (c p d q : ℕ) → p < 128 → q < 128
-    → (eqb (2 * d + q / 64) (2 * c + p / 64) && eqb (q % 64) (p % 64)) ≡ (eqb d c && eqb q p)
-same_place c p d q hp hq =
-    same_bool _ _
-    (λ e. let h = both_eqb (2 * d + q / 64) (2 * c + p / 64) (q % 64) (p % 64) e in eqb_both d c q p (omega arith) (omega arith))
-    (λ e. let h = both_eqb d c q p e in eqb_both (2 * d + q / 64) (2 * c + p / 64) (q % 64) (p % 64) (omega arith) (omega arith))
-
--- the bit that code makes of p, in the word that it finds for c and p
-abbrev pub word_of : ℕ → ℕ → ℕ
-word_of c p = 2 * c + p / 64
-
+-- the bit that code makes of a kind
 abbrev pub one_of : ℕ → ℕ
-one_of p = (1 * 2 ^ (p % 64)) % 2 ^ 64
+one_of kind = (1 * 2 ^ (kind % 64)) % 2 ^ 64
 
-at_place : (c p d q : ℕ) → p < 128 → q < 128 → (eqb (2 * d + q / 64) (word_of c p) && on (one_of p) (q % 64)) ≡ (eqb d c && eqb q p)
-at_place c p d q hp hq =
-    ap (λ (w : ℕ). eqb (2 * d + q / 64) (word_of c p) && on w (q % 64)) (one_bit (p % 64) (omega arith))
-    ∙ ap (λ (t : Bool). eqb (2 * d + q / 64) (word_of c p) && t) (on_power (p % 64) (q % 64))
-    ∙ same_place c p d q hp hq
+on_one : (kind k : ℕ) → on (one_of kind) k ≡ eqb k (kind % 64)
+on_one kind k = ap (λ (x : ℕ). on x k) (one_bit (kind % 64) (omega arith)) ∙ on_power (kind % 64) k
 
-module _ (rows : List ℕ) (c p : ℕ) (l : length rows ≡ 256) (hc : c < 128) (hp : p < 128) where
-  pub marked : Added rows (or_into rows (word_of c p) (one_of p)) (λ d q. eqb d c && eqb q p)
-  marked = record {
-    long = length-set rows _ _ ∙ l;
-    bits = λ d q h. bit_or_into rows (word_of c p) (one_of p) d q (omega arith) ∙ ap (λ (t : Bool). bit rows d q || t) (at_place c p d q hp h);
-  }
+module _ (s : KindSet) (kind : ℕ) where
+  low_here : kind < 64 → (q : ℕ) → q < 64 → on (one_of kind) q ≡ eqb q kind
+  low_here l q h = on_one kind q ∙ ap (eqb q) (omega arith)
 
-  pub unmarked : Removed rows (without_into rows (word_of c p) (one_of p)) (λ d q. eqb d c && eqb q p)
-  unmarked = record {
-    long = length-set rows _ _ ∙ l;
-    bits = λ d q h. bit_without_into rows (word_of c p) (one_of p) d q (omega arith) ∙ ap (λ (t : Bool). bit rows d q && not t) (at_place c p d q hp h);
-  }
+  low_off : kind < 64 → (q : ℕ) → 64 ≤ q → q < 128 → eqb q kind ≡ false
+  low_off l q h _ = ne_eqb q kind (λ e. omega arith)
 
--- word j of row d, after words 0 and 1 of row k are added to those of row c
-pub two_words : (t : Bool) (rows : List ℕ) (c k d j r : ℕ) → j < 2
-    → ((t || (eqb (2 * d + j) (2 * c) && on (get_or rows (2 * k) 0) r)) || (eqb (2 * d + j) (2 * c + 1) && on (get_or rows (2 * k + 1) 0) r))
-    ≡ (t || (eqb d c && on (get_or rows (2 * k + j) 0) r))
-two_words t rows c k d zero r h =
-    let off : eqb (2 * d + 0) (2 * c + 1) ≡ false = ne_eqb (2 * d + 0) (2 * c + 1) (λ e. omega arith) in
-    let same : eqb (2 * d + 0) (2 * c) ≡ eqb d c = same_test (2 * d + 0) (2 * c) d c (λ e. omega arith) (λ e. omega arith) in
-    rw (off, same, or-false, add-zero) refl
-two_words t rows c k d (suc zero) r h =
-    let off : eqb (2 * d + 1) (2 * c) ≡ false = ne_eqb (2 * d + 1) (2 * c) (λ e. omega arith) in
-    let same : eqb (2 * d + 1) (2 * c + 1) ≡ eqb d c = same_test (2 * d + 1) (2 * c + 1) d c (λ e. omega arith) (λ e. omega arith) in
-    rw (off, same, or-false) refl
-two_words t rows c k d (suc (suc j)) r h = absurd (omega arith)
+  high_here : 64 ≤ kind → kind < 128 → (q : ℕ) → 64 ≤ q → q < 128 → on (one_of kind) (q - 64) ≡ eqb q kind
+  high_here l m q h _ = on_one kind (q - 64) ∙ same_test (q - 64) (kind % 64) q kind (λ e. omega arith) (λ e. omega arith)
+
+  high_off : 64 ≤ kind → (q : ℕ) → q < 64 → eqb q kind ≡ false
+  high_off l q h = ne_eqb q kind (λ e. omega arith)
+
+  pub with_low : kind < 64 → Gains s (record { low = bit_or s.low (one_of kind); high = s.high }) (λ q. eqb q kind)
+  with_low l = gains_low s (one_of kind) (λ q. eqb q kind) (low_here l) (low_off l)
+
+  pub with_high : 64 ≤ kind → kind < 128 → Gains s (record { low = s.low; high = bit_or s.high (one_of kind) }) (λ q. eqb q kind)
+  with_high l h = gains_high s (one_of kind) (λ q. eqb q kind) (high_here l h) (high_off l)
+
+  pub without_low : kind < 64 → Loses s (record { low = without s.low (one_of kind); high = s.high }) (λ q. eqb q kind)
+  without_low l = loses_low s (one_of kind) (λ q. eqb q kind) (low_here l) (low_off l)
+
+  pub without_high : 64 ≤ kind → kind < 128 → Loses s (record { low = s.low; high = without s.high (one_of kind) }) (λ q. eqb q kind)
+  without_high l h = loses_high s (one_of kind) (λ q. eqb q kind) (high_here l h) (high_off l)
+
+-- ---- two sets
+
+pub gains_all : (s t : KindSet) → Gains s (record { low = bit_or s.low t.low; high = bit_or s.high t.high }) (holds t)
+gains_all s t = record {
+  each = λ q h. by_cases (dec_lt q 64)
+      (λ low. holds_low _ q low ∙ on_or s.low t.low q ∙ rw (holds_low s q low, holds_low t q low) refl)
+      (λ high.
+      let l : 64 ≤ q = omega arith in
+      holds_high _ q l h ∙ on_or s.high t.high (q - 64) ∙ rw (holds_high s q l h, holds_high t q l h) refl);
+}
+
+pub shared_all : (s t : KindSet) → Shared s t (record { low = bit_and s.low t.low; high = bit_and s.high t.high })
+shared_all s t = record {
+  each = λ q h. by_cases (dec_lt q 64)
+      (λ low. holds_low _ q low ∙ on_and s.low t.low q ∙ rw (holds_low s q low, holds_low t q low) refl)
+      (λ high.
+      let l : 64 ≤ q = omega arith in
+      holds_high _ q l h ∙ on_and s.high t.high (q - 64) ∙ rw (holds_high s q l h, holds_high t q l h) refl);
+}
+
+-- ---- a row in its relation
+
+-- a set that is read as a row has the row's kinds
+pub holds_row : (r : Relation) (c q : ℕ) → holds (row_of r c) q ≡ bit r c q
+unfolding bit
+holds_row r c q = refl
+
+module _ (r : Relation) (c : ℕ) (l : c < length r.rows) (s : KindSet) where
+  bit_by : (g : Bool → Bool → Bool) (keep : (b : Bool) → g b false ≡ b) (f : ℕ → Bool) → ((q : ℕ) → q < 128 → holds s q ≡ g (holds (row_of r c) q) (f q))
+      → (d q : ℕ) → q < 128 → bit (record { rows = set r.rows c s }) d q ≡ g (bit r d q) (eqb d c && f q)
+  unfolding bit
+  bit_by g keep f row d q h = go (eqb d c) refl
+    where
+      go : (t : Bool) → eqb d c ≡ t → bit (record { rows = set r.rows c s }) d q ≡ g (bit r d q) (t && f q)
+      go true e = rw (eqb-true d c e, get_or-set_same r.rows c s none_of l) (row q h)
+      go false e = rw (get_or-set_other r.rows c d s none_of (eqb-false d c e)) (sym (keep (bit r d q)))
+
+  pub row_set : RowSet c s r (record { rows = set r.rows c s })
+  unfolding bit
+  row_set = record { bits = λ d q. go d q (eqb d c) refl }
+    where
+      go : (d q : ℕ) (t : Bool) → eqb d c ≡ t → bit (record { rows = set r.rows c s }) d q ≡ (if t then holds s q else bit r d q)
+      go d q true e = rw (eqb-true d c e, get_or-set_same r.rows c s none_of l) refl
+      go d q false e = rw (get_or-set_other r.rows c d s none_of (eqb-false d c e)) refl
+
+  pub added_row : {f : ℕ → Bool} → Gains (row_of r c) s f → Added r (record { rows = set r.rows c s }) (λ d q. eqb d c && f q)
+  added_row {f} gains = record { bits = bit_by ◌||◌ or-false f gains.each }
+
+  pub removed_row : {f : ℕ → Bool} → Loses (row_of r c) s f → Removed r (record { rows = set r.rows c s }) (λ d q. eqb d c && f q)
+  removed_row {f} loses = record { bits = bit_by (λ a b. a && not b) and-true f loses.each }
+
+-- what a replaced row has, and the others
+module _ {c : ℕ} {row : KindSet} {old new : Relation} (s : RowSet c row old new) where
+  pub row_same : (q : ℕ) → bit new c q ≡ holds row q
+  row_same q = s.bits c q ∙ rw (eq-eqb c c refl) refl
+
+  pub row_other : (d q : ℕ) → d ≢ c → bit new d q ≡ bit old d q
+  row_other d q ne = s.bits d q ∙ rw (ne_eqb d c ne) refl

@@ -1,24 +1,23 @@
--- Eight tests at once: their bits in a byte, and that byte's bits in a row.
+-- Eight tests at once: their bits in a byte, and that byte's bits in a set.
 --     octet_none, octet_more     no test yet; one more
 --     on_shl, on_tail            a word that is moved up; a word without the bits before a place
---     bit_octet                  what a bit is after an octet is added to a row
+--     octet_low, octet_high      an octet is added to a set, to its low word and to its high one
 -- Assumes nothing.
 use mathlib.Core.Path.{◌≡◌, refl, sym, ap, ◌∙◌}
-use mathlib.Core.Bool.{Bool, true, false, ◌&&◌, ◌||◌, true≢false, and-false, and-true, and-eq-true_iff}
-use mathlib.Core.List.{List}
+use mathlib.Core.Bool.{Bool, true, false, ◌&&◌, and-false, and-true}
 use Prim.Native.Nat.{ℕ, suc, ◌+◌, ◌-◌, ◌*◌, ◌/◌, ◌%◌, ◌^◌, ◌<◌, ◌≤◌, zero-le}
-use native.Mathlib.Nat.{mul-mod_left, div-eq_of_lt, pow-suc, lt_of_lt_of_le, lt_of_not-le, mul_assoc, one-mul, zero-mul}
+use native.Mathlib.Nat.{mul-mod_left, div-eq_of_lt, pow-suc, lt_of_lt_of_le, mul_assoc, one-mul, zero-mul}
 use native.Mathlib.Omega.{arith}
-use borrow.Author.Tests.{eq-eqb, eqb-true, le-leb, leb-true, leb-false, le-ltb}
+use borrow.Author.Tests.{le-leb, lt-leb, leb-true, leb-false, le-ltb}
 use mir.Val.{bool_byte}
 use lib.Bits.{bit_or, or_lt}
 use lib.Dec.{eqb, leb}
-use lib.ListN.{length}
 use lib.Pow.{pow_mono, pow-add, shl-shr, shl_exact}
-use Rattle.relation.specs.Bit.{Octet, on, bit}
+use Rattle.relation.specs.declared.KindSet.{KindSet}
+use Rattle.relation.specs.Bit.{Octet, on, Gains}
 use Rattle.inheritance.proofs.Bools.{same_bool}
 use Rattle.relation.proofs.Bools.{one_more}
-use Rattle.relation.proofs.BitLaws.{on_or, on_power, or_into, bit_or_into}
+use Rattle.relation.proofs.BitLaws.{on_or, on_power, gains_low, gains_high}
 use Rattle.relation.proofs.Zeros.{on_zero}
 use Rattle.relation.proofs.Walking.{on_shifted}
 
@@ -39,7 +38,7 @@ module _ (f : ℕ → Bool) where
     at = λ j. on_or bits _ j ∙ rw (o.at j, on_shown b k j h, e) (one_more f j k);
   }
 
--- ---- an octet in a row
+-- ---- an octet in a set
 
 on_below : (w m k : ℕ) → on (w * 2 ^ (suc m + k)) k ≡ false
 unfolding on
@@ -76,43 +75,25 @@ pub on_small : (w k : ℕ) → w < 256 → 8 ≤ k → on w k ≡ false
 unfolding on
 on_small w k h l = ap (λ (x : ℕ). eqb (x % 2) 1) (div-eq_of_lt (lt_of_lt_of_le h (pow_mono l)))
 
--- a bit that is set is one of the eight
-one_of_eight : (w k : ℕ) → w < 256 → on w k ≡ true → k < 8
-one_of_eight w k h is = lt_of_not-le (λ l. true≢false (sym is ∙ on_small w k h l))
+module _ (s : KindSet) (q bits : ℕ) (small : bits < 256) where
+  -- the bits that code makes of an octet, in the word that it finds for q
+  abbrev eight : ℕ
+  eight = (bits * 2 ^ (8 * (q % 8))) % 2 ^ 64
 
-same_octet : (c q bits d p : ℕ) → q < 16 → bits < 256 → p < 128
-    → (eqb (2 * d + p / 64) (2 * c + q / 8) && (leb (8 * (q % 8)) (p % 64) && on bits (p % 64 - 8 * (q % 8)))) ≡ (eqb d c && (leb (8 * q) p && on bits (p - 8 * q)))
-same_octet c q bits d p hq hb hp = same_bool _ _ there back
-  where
-    there : (eqb (2 * d + p / 64) (2 * c + q / 8) && (leb (8 * (q % 8)) (p % 64) && on bits (p % 64 - 8 * (q % 8)))) ≡ true
-        → (eqb d c && (leb (8 * q) p && on bits (p - 8 * q))) ≡ true
-    there e =
-        let (w, r) = (and-eq-true_iff (eqb (2 * d + p / 64) (2 * c + q / 8)) _).0 e in
-        let (l, is) = (and-eq-true_iff (leb (8 * (q % 8)) (p % 64)) _).0 r in
-        let hw = eqb-true (2 * d + p / 64) (2 * c + q / 8) w in
-        let hl = leb-true (8 * (q % 8)) (p % 64) l in
-        let hk = one_of_eight bits (p % 64 - 8 * (q % 8)) hb is in
-        let hd : d ≡ c = omega arith in
-        let hh : p / 64 ≡ q / 8 = omega arith in
-        let same : p - 8 * q ≡ p % 64 - 8 * (q % 8) = omega arith in
-        rw (eq-eqb d c hd, le-leb (8 * q) p (omega arith)) (ap (on bits) same ∙ is)
+  on_eight : (k : ℕ) → on eight k ≡ (leb (8 * (q % 8)) k && on bits (k - 8 * (q % 8)))
+  on_eight k = ap (λ (w : ℕ). on w k) (shl_exact 8 (8 * (q % 8)) 64 small (omega arith)) ∙ on_shl bits (8 * (q % 8)) k
 
-    back : (eqb d c && (leb (8 * q) p && on bits (p - 8 * q))) ≡ true
-        → (eqb (2 * d + p / 64) (2 * c + q / 8) && (leb (8 * (q % 8)) (p % 64) && on bits (p % 64 - 8 * (q % 8)))) ≡ true
-    back e =
-        let (w, r) = (and-eq-true_iff (eqb d c) _).0 e in
-        let (l, is) = (and-eq-true_iff (leb (8 * q) p) _).0 r in
-        let hw = eqb-true d c w in
-        let hl = leb-true (8 * q) p l in
-        let hk = one_of_eight bits (p - 8 * q) hb is in
-        let hh : p / 64 ≡ q / 8 = omega arith in
-        let same : p % 64 - 8 * (q % 8) ≡ p - 8 * q = omega arith in
-        rw (eq-eqb (2 * d + p / 64) (2 * c + q / 8) (omega arith), le-leb (8 * (q % 8)) (p % 64) (omega arith)) (ap (on bits) same ∙ is)
+  pub octet_low : q < 8 → Gains s (record { low = bit_or s.low ((bits * 2 ^ (8 * (q % 8))) % 2 ^ 64); high = s.high }) (λ p. leb (8 * q) p && on bits (p - 8 * q))
+  octet_low l = gains_low s eight (λ p. leb (8 * q) p && on bits (p - 8 * q))
+      (λ p h. let same : q % 8 ≡ q = omega arith in on_eight p ∙ rw same refl)
+      (λ p h _. rw (on_small bits (p - 8 * q) small (omega arith), and-false) refl)
 
-pub bit_octet : (rows : List ℕ) (c q bits d p : ℕ) → length rows ≡ 256 → c < 128 → q < 16 → bits < 256 → p < 128
-    → bit (or_into rows (2 * c + q / 8) ((bits * 2 ^ (8 * (q % 8))) % 2 ^ 64)) d p ≡ (bit rows d p || (eqb d c && (leb (8 * q) p && on bits (p - 8 * q))))
-bit_octet rows c q bits d p l hc hq hb hp =
-    bit_or_into rows (2 * c + q / 8) ((bits * 2 ^ (8 * (q % 8))) % 2 ^ 64) d p (omega arith)
-    ∙ ap (λ (w : ℕ). bit rows d p || (eqb (2 * d + p / 64) (2 * c + q / 8) && on w (p % 64))) (shl_exact 8 (8 * (q % 8)) 64 hb (omega arith))
-    ∙ ap (λ (t : Bool). bit rows d p || (eqb (2 * d + p / 64) (2 * c + q / 8) && t)) (on_shl bits (8 * (q % 8)) (p % 64))
-    ∙ ap (λ (t : Bool). bit rows d p || t) (same_octet c q bits d p hq hb hp)
+  pub octet_high : 8 ≤ q → q < 16 → Gains s (record { low = s.low; high = bit_or s.high ((bits * 2 ^ (8 * (q % 8))) % 2 ^ 64) }) (λ p. leb (8 * q) p && on bits (p - 8 * q))
+  octet_high l m = gains_high s eight (λ p. leb (8 * q) p && on bits (p - 8 * q)) here (λ p h. rw (lt-leb (8 * q) p (omega arith)) refl)
+    where
+      here : (p : ℕ) → 64 ≤ p → p < 128 → on eight (p - 64) ≡ (leb (8 * q) p && on bits (p - 8 * q))
+      here p h _ =
+          let from : leb (8 * (q % 8)) (p - 64) ≡ leb (8 * q) p =
+          same_bool _ _ (λ e. let t = leb-true (8 * (q % 8)) (p - 64) e in le-leb (8 * q) p (omega arith)) (λ e. let t = leb-true (8 * q) p e in le-leb (8 * (q % 8)) (p - 64) (omega arith)) in
+          let place : p - 64 - 8 * (q % 8) ≡ p - 8 * q = omega arith in
+          on_eight (p - 64) ∙ rw (from, place) refl

@@ -1,29 +1,36 @@
--- Lists of zeros.
---     on_zero                    the number 0 has no bit
---     get_d_zeros, bit_zeros     what is in a list of zeros, and in rows of zeros: no bit
---     blank_zeros                rows of zeros are blank
+-- Sets with no kind.
+--     on_zero        the number 0 has no bit
+--     holds_none     the empty set has no kind
+--     blank_empty    a relation of empty sets is blank
 -- Assumes nothing.
 use mathlib.Core.Path.{◌≡◌, refl, ap, ◌∙◌}
-use mathlib.Core.Bool.{false}
+use mathlib.Core.Bool.{Bool, true, false}
+use Rattle.std.specs.Prelude.{if◌then◌else◌}
 use Prim.Native.Nat.{ℕ, zero, suc, ◌%◌, ◌^◌}
 use native.Mathlib.Nat.{zero-div}
-use lib.Dec.{eqb}
-use lib.ListN.{get_or, replicate, length-replicate}
-use Rattle.relation.specs.Bit.{bit, on, Blank}
+use lib.Dec.{eqb, ltb}
+use lib.ListN.{get_or, replicate}
+use Rattle.relation.specs.declared.KindSet.{KindSet}
+use Rattle.relation.specs.Bit.{bit, holds, on, none_of, Blank}
 
 pub on_zero : (k : ℕ) → on 0 k ≡ false
 unfolding on
 on_zero k = ap (λ (x : ℕ). eqb (x % 2) 1) (zero-div (2 ^ k))
 
-pub get_d_zeros : (k j : ℕ) → ◌≡◌ {A = ℕ} (get_or (replicate k 0) j 0) 0
-get_d_zeros zero j = refl
-get_d_zeros (suc k) zero = refl
-get_d_zeros (suc k) (suc j) = get_d_zeros k j
+pub holds_none : (p : ℕ) → holds none_of p ≡ false
+unfolding holds
+holds_none p = go (ltb p 64)
+  where
+    go : (t : Bool) → on (if t then 0 else 0) (p % 64) ≡ false
+    go true = on_zero (p % 64)
+    go false = on_zero (p % 64)
 
-pub bit_zeros : (k c p : ℕ) → bit (replicate k 0) c p ≡ false
+get_empty : (k c : ℕ) → get_or (replicate k none_of) c none_of ≡ none_of
+get_empty zero c = refl
+get_empty (suc k) zero = refl
+get_empty (suc k) (suc c) = get_empty k c
+
+-- k is not written as 128, so that `replicate k none_of` stays as it is
+pub blank_empty : (k : ℕ) → Blank (record { rows = replicate k none_of })
 unfolding bit
-bit_zeros k c p = rw get_d_zeros (on_zero (p % 64))
-
--- k is not written as 256, so that `replicate k 0` stays as it is
-pub blank_zeros : (k : ℕ) → k ≡ 256 → Blank (replicate k 0)
-blank_zeros k e = record { long = length-replicate k 0 ∙ e; none = bit_zeros k }
+blank_empty k = record { none = λ c p. ap (λ (s : KindSet). holds s p) (get_empty k c) ∙ holds_none p }

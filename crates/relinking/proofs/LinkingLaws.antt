@@ -10,9 +10,11 @@ use Prim.Native.Nat.{ℕ, ◌<◌}
 use native.Mathlib.Omega.{arith}
 use borrow.Author.Tests.{eq-eqb, eqb-true}
 use lib.Dec.{eqb}
+use Rattle.std.specs.Prelude.{Result}
 use Rattle.inheritance.specs.Above.{above, Acyclic}
 use Rattle.inheritance.proofs.AboveLaws.{above_same}
 use Rattle.inheritance.proofs.Bools.{same_bool}
+use Rattle.relation.specs.declared.Relation.{Relation}
 use Rattle.relation.specs.Bit.{bit}
 use Rattle.relation.specs.First.{First}
 use Rattle.soundness.proofs.Soundness.{rows_links}
@@ -23,12 +25,11 @@ use Rattle.tables.specs.Tables.{Tables, up_of}
 use Rattle.tables.proofs.EditLaws.{added_acyclic, taken_acyclic}
 use Rattle.resettling.specs.Known.{Known}
 use Rattle.resettling.proofs.KnownLaws.{has, known_place}
-use Rattle.relinking.specs.declared.Verdict.{Verdict}
 use Rattle.relinking.specs.Relinked.{linked, judged, link_checked, link_edit}
 
 -- ---- refusals 7, 8 and 9
 
-checked_judged : (adding linked cycle : Bool) (t : Tables) (next : Outcome ℕ) {why : Refusal} → judged adding linked cycle ≡ Verdict.Refused why
+checked_judged : (adding linked cycle : Bool) (t : Tables) (next : Outcome ℕ) {why : Refusal} → judged adding linked cycle ≡ Result.Err why
     → leaves (refused (refusal_number why)) t ≡ link_checked adding linked cycle t next
 unfolding check
 checked_judged true true cycle t next {why} e = let w : Refusal.Linked ≡ why = cc in rw (← w) refl
@@ -37,7 +38,7 @@ checked_judged true false false t next e = let z : ◌≡◌ {A = ℕ} 0 1 = cc 
 checked_judged false true cycle t next e = let z : ◌≡◌ {A = ℕ} 0 1 = cc in absurd (omega arith)
 checked_judged false false cycle t next {why} e = let w : Refusal.NotLinked ≡ why = cc in rw (← w) refl
 
-checked_allowed : (adding linked cycle : Bool) (t : Tables) (next : Outcome ℕ) → judged adding linked cycle ≡ Verdict.Allowed
+checked_allowed : (adding linked cycle : Bool) (t : Tables) (next : Outcome ℕ) → judged adding linked cycle ≡ Result.Ok tt
     → link_checked adding linked cycle t next ≡ next
 unfolding check
 checked_allowed true true cycle t next e = let z : ◌≡◌ {A = ℕ} 0 1 = cc in absurd (omega arith)
@@ -46,7 +47,7 @@ checked_allowed true false false t next e = refl
 checked_allowed false true cycle t next e = refl
 checked_allowed false false cycle t next e = let z : ◌≡◌ {A = ℕ} 0 1 = cc in absurd (omega arith)
 
-no_cycle : (linked cycle : Bool) → judged true linked cycle ≡ Verdict.Allowed → cycle ≡ false
+no_cycle : (linked cycle : Bool) → judged true linked cycle ≡ Result.Ok tt → cycle ≡ false
 no_cycle true cycle e = let z : ◌≡◌ {A = ℕ} 0 1 = cc in absurd (omega arith)
 no_cycle false true e = let z : ◌≡◌ {A = ℕ} 0 1 = cc in absurd (omega arith)
 no_cycle false false e = refl
@@ -63,7 +64,7 @@ module _ (n m : ℕ) (t : Tables) (c p : ℕ) (adding : Bool) where
   abbrev cycle : Bool
   cycle = eqb p c || above n (up_of n t.links) p c
 
-  module _ {rows order reach ruled : List ℕ} (k : Known n m t rows order reach ruled) (c-in : c < n) (p-in : p < n) where
+  module _ {rows : Relation} {order : List ℕ} {reach ruled : Relation} (k : Known n m t rows order reach ruled) (c-in : c < n) (p-in : p < n) where
     pub judged_links : {place : ℕ} → First (bit reach c) 0 128 place → judged adding (bit rows c p) (bit reach p place) ≡ judged adding there cycle
     judged_links {place} first =
         let same = rows_links n t.links rows (has k).sizes.kinds k.tracked.loaded in
@@ -73,16 +74,16 @@ module _ (n m : ℕ) (t : Tables) (c p : ℕ) (adding : Bool) where
         ∙ ap₂ ◌||◌ (ap (λ (x : ℕ). eqb x p) is ∙ eqb_turned c p)
         (ap (above n (bit rows) p) is ∙ above_same n (bit rows) (up_of n t.links) same p c p-in c-in))
 
-    pub link_judged : (by : ℕ) {why : Refusal} → judged adding there cycle ≡ Verdict.Refused why
+    pub link_judged : (by : ℕ) {why : Refusal} → judged adding there cycle ≡ Result.Err why
         → leaves (refused (refusal_number why)) t ≡ link_edit n m t by c p adding
     unfolding link_edit check
     link_judged by e = rw k.is_sound (checked_judged adding there cycle t _ e)
 
-    module _ (allowed : judged adding there cycle ≡ Verdict.Allowed) where
+    module _ (allowed : judged adding there cycle ≡ Result.Ok tt) where
       pub link_acyclic : Acyclic n (up_of n (linked n t.links c p adding))
       link_acyclic = go adding allowed
         where
-          go : (b : Bool) → judged b there cycle ≡ Verdict.Allowed → Acyclic n (up_of n (linked n t.links c p b))
+          go : (b : Bool) → judged b there cycle ≡ Result.Ok tt → Acyclic n (up_of n (linked n t.links c p b))
           go true e = added_acyclic n m t (has k) c p c-in p-in (no_cycle there cycle e)
           go false e = taken_acyclic n m t (has k) c p c-in p-in
 

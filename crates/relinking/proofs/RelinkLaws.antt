@@ -16,6 +16,7 @@ use lib.Seq.{get_or-set_same, get_or-set_other}
 use Rattle.inheritance.specs.Above.{Acyclic, one_if}
 use Rattle.inheritance.proofs.AboveLaws.{SameBut}
 use Rattle.counting.specs.Counting.{Counted}
+use Rattle.relation.specs.declared.Relation.{Relation}
 use Rattle.relation.specs.Bit.{bit}
 use Rattle.relation.proofs.Bools.{both_eqb, eqb_both}
 use Rattle.loading.specs.Loaded.{Loaded, link}
@@ -74,17 +75,16 @@ module _ (n : ℕ) (links : List ℕ) (c p : ℕ) (c-in : c < n) (p-in : p < n) 
           rw (d-same, q-same) there
       go false e = elsewhere (ltb q n) refl e
 
-  reset_loaded : {old rows : List ℕ} → Loaded n links old → Reset c p adding old rows → Loaded n (set links (c * n + p) (one_if adding)) rows
+  reset_loaded : {old rows : Relation} → Loaded n links old → Reset c p adding old rows → Loaded n (set links (c * n + p) (one_if adding)) rows
   reset_loaded loaded r = record {
-    long = r.long;
     bits = λ d q h. r.bits d q h ∙ ap (changed adding (eqb d c && eqb q p)) (loaded.bits d q h) ∙ sym (changed_link d q);
   }
 
 -- ---- the change
 
-module _ (n m : ℕ) (t : Tables) (c p : ℕ) (adding : Bool) {rows order reach ruled : List ℕ} (k : Known n m t rows order reach ruled) (c-in : c < n) (p-in : p < n)
+module _ (n m : ℕ) (t : Tables) (c p : ℕ) (adding : Bool) {rows : Relation} {order : List ℕ} {reach ruled : Relation} (k : Known n m t rows order reach ruled) (c-in : c < n) (p-in : p < n)
     (calm : Acyclic n (up_of n (linked n t.links c p adding)))
-    {rows' order' reach' ruled' : List ℕ} (r : Relinked n m c p adding t.rules rows rows' order' reach' ruled') where
+    {rows' : Relation} {order' : List ℕ} {reach' ruled' : Relation} (r : Relinked n m c p adding t.rules rows rows' order' reach' ruled') where
   pub link_loaded : Loaded n (linked n t.links c p adding) rows'
   link_loaded = reset_loaded n t.links c p c-in p-in (has k).lengths.links_length adding k.tracked.loaded r.reset
 

@@ -8,53 +8,46 @@ ghost use Rattle.relation.specs.Bit.{bit};
 ghost use Rattle.resettling.specs.Known.{Known, Tracked};
 ghost use Rattle.tables.specs.Caller.{callers};
 ghost use Rattle.tables.specs.Calls.{leaves, accepted};
-ghost use Rattle.tables.specs.Reply.{given, edited};
+ghost use Rattle.tables.specs.Reply.{given, replied};
 ghost use Rattle.tables.specs.Tables.{lent, up_of};
 ghost use Rattle.relinking.specs.Relinked.{linked, judged, link_edit, Preparable, Relinked};
 
 use arranging::arrange;
 use inheritance::Kind;
-use relation::{mark, next, test, unmark};
+use relation::Relation;
 use resettling::{count_edit, resettle_link};
 use ruling::rule_rows;
-use tables::{Caller, Edited, Refusal, link_place};
-
-// What the links say to an edit.
-#[derive(Clone, Copy)]
-pub enum Verdict {
-    Allowed,
-    Refused(Refusal),
-}
+use tables::{Caller, Refusal, link_place};
 
 // Refusals 7 and 9 of an add, in this order, and 8 of a take. The rows have the links, and reach the places of the kinds at or
-// above each; `at` is the place of the child.
+// above each; `at` is the place of the child. `adding` stays a bool, here and in what follows: no value stands beside it.
 fn judge(
-    rows: &[u64; 256],
-    reach: &[u64; 256],
+    rows: &Relation,
+    reach: &Relation,
     child: Kind,
     parent: Kind,
     at: usize,
     adding: bool,
-) -> Verdict
+) -> Result<(), Refusal>
     requires { (child.0 < 128) × (parent.0 < 128) × (at < 128) }
     ensures { result ≡ judged adding (bit rows.now child.0 parent.0) (bit reach.now parent.0 at) }
 {
     let c = child.0 as usize;
     let p = parent.0 as usize;
-    let linked = test(rows, c, p);
-    let cycle = test(reach, p, at);
+    let linked = rows.has(c, p);
+    let cycle = reach.has(p, at);
     if adding {
         if linked {
-            Verdict::Refused(Refusal::Linked)
+            Err(Refusal::Linked)
         } else if cycle {
-            Verdict::Refused(Refusal::Cycle)
+            Err(Refusal::Cycle)
         } else {
-            Verdict::Allowed
+            Ok(())
         }
     } else if linked {
-        Verdict::Allowed
+        Ok(())
     } else {
-        Verdict::Refused(Refusal::NotLinked)
+        Err(Refusal::NotLinked)
     }
 }
 
@@ -63,26 +56,26 @@ fn relink(
     n: usize,
     m: usize,
     rules: &[u16],
-    rows: &mut [u64; 256],
+    rows: &mut Relation,
     order: &mut [u8; 128],
-    reach: &mut [u64; 256],
-    ruled: &mut [u64; 256],
+    reach: &mut Relation,
+    ruled: &mut Relation,
     child: Kind,
     parent: Kind,
     adding: bool,
 )
-    requires { (Preparable n m rules.now rows.old order.old) × (child.0 < n) × (parent.0 < n) }
+    requires { (Preparable n m rules.now order.old) × (child.0 < n) × (parent.0 < n) }
     ensures { Relinked n m child.0 parent.0 adding rules.now rows.old rows.new order.new reach.new ruled.new }
 {
     let c = child.0 as usize;
     let p = parent.0 as usize;
     if adding {
-        mark(rows, c, p);
+        rows.insert(c, p);
     } else {
-        unmark(rows, c, p);
+        rows.remove(c, p);
     }
-    *reach = [0u64; 256];
-    *ruled = [0u64; 256];
+    *reach = Relation::empty();
+    *ruled = Relation::empty();
     if arrange(rows, n, order, reach) {
         rule_rows(rules, n, m, order, ruled);
     }
@@ -97,10 +90,10 @@ fn apply_link(
     entries: &mut [u16],
     tally: &mut [u32],
     disputes: &mut [u16],
-    rows: &mut [u64; 256],
+    rows: &mut Relation,
     order: &mut [u8; 128],
-    reach: &mut [u64; 256],
-    ruled: &mut [u64; 256],
+    reach: &mut Relation,
+    ruled: &mut Relation,
     caller: Caller,
     child: Kind,
     parent: Kind,
@@ -126,7 +119,7 @@ fn apply_link(
     count
 }
 
-// The link between two kinds of the book is added or taken.
+/// The link between two kinds of the book is added or taken.
 pub fn set_link(
     n: u16,
     m: u16,
@@ -135,26 +128,24 @@ pub fn set_link(
     entries: &mut [u16],
     tally: &mut [u32],
     disputes: &mut [u16],
-    rows: &mut [u64; 256],
+    rows: &mut Relation,
     order: &mut [u8; 128],
-    reach: &mut [u64; 256],
-    ruled: &mut [u64; 256],
+    reach: &mut Relation,
+    ruled: &mut Relation,
     caller: Caller,
     child: Kind,
     parent: Kind,
     adding: bool,
-) -> Edited
+) -> Result<u16, Refusal>
     requires { (Known n m (lent links.old rules.now entries.old tally.old disputes.old) rows.old order.old reach.old ruled.old) × (caller.0 < callers) × (child.0 < n) × (parent.0 < n) }
-    ensures { (leaves (edited result) (lent links.new rules.now entries.new tally.new disputes.new)
+    ensures { (leaves (replied result) (lent links.new rules.now entries.new tally.new disputes.new)
         ≡ link_edit n m (lent links.old rules.now entries.old tally.old disputes.old) caller.0 child.0 parent.0 adding)
         × (Tracked n m (lent links.new rules.now entries.new tally.new disputes.new) rows.new order.new reach.new ruled.new) }
 {
-    let at = next(reach, child.0 as usize, 0);
-    match judge(rows, reach, child, parent, at, adding) {
-        Verdict::Refused(why) => Edited::Refused(why),
-        Verdict::Allowed => Edited::Done(apply_link(
-            n, m, links, rules, entries, tally, disputes, rows, order, reach, ruled, caller, child,
-            parent, adding,
-        )),
-    }
+    let at = reach.row(child.0 as usize).first(0, 128).unwrap();
+    judge(rows, reach, child, parent, at, adding)?;
+    Ok(apply_link(
+        n, m, links, rules, entries, tally, disputes, rows, order, reach, ruled, caller, child,
+        parent, adding,
+    ))
 }

@@ -5,4 +5,4 @@ mod opening;
 mod refreshing;
 
 pub use opening::open;
-pub use refreshing::refresh;
+pub use refreshing::{refresh, refresh_tables};

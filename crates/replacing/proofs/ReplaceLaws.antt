@@ -1,26 +1,14 @@
 -- The tables of a book replaced by others.
---     pasted_whole                      a table that is copied over one as long
 --     replace_unsound, replace_done     refusal 5, and new tables that are sound
 -- Assumes nothing.
-use mathlib.Core.Path.{◌≡◌, refl, sym, ap, ◌∙◌}
+use mathlib.Core.Path.{◌≡◌, refl}
 use mathlib.Core.Bool.{true, false}
-use mathlib.Core.List.{List, ◌++◌, append-nil}
+use mathlib.Core.List.{List}
 use Prim.Native.Nat.{ℕ}
-use native.Mathlib.Nat.{zero-add}
-use lib.ListN.{length, take, drop}
-use lib.Seq.{paste, take-length, drop-length}
 use Rattle.tables.specs.Calls.{leaves, check}
 use Rattle.tables.specs.Reply.{refused, given}
 use Rattle.tables.specs.Tables.{Tables, lent, sound, differing}
 use Rattle.replacing.specs.Replaced.{replaced}
-
-pub pasted_whole : {table : List ℕ} (old new : List ℕ) → length old ≡ length new → table ≡ paste old 0 new (length new) → table ≡ new
-pasted_whole old new long is =
-    is
-    ∙ ap (λ (k : ℕ). take (length new) new ++ drop k old) (zero-add (length new) ∙ sym long)
-    ∙ ap (λ (l : List ℕ). take (length new) new ++ l) (drop-length old)
-    ∙ append-nil (take (length new) new)
-    ∙ take-length new
 
 module _ (n m : ℕ) (t : Tables) (new : Tables) where
   pub replace_unsound : sound n m new ≡ false → leaves (refused 5) t ≡ replaced n m t new

@@ -13,6 +13,7 @@ use lib.Arith.{digits_lt}
 use lib.Dec.{eqb}
 use lib.ListN.{length, get_or, set, length-set}
 use Rattle.counting.specs.Counting.{Counted}
+use Rattle.relation.specs.declared.Relation.{Relation}
 use Rattle.relation.specs.Bit.{bit}
 use Rattle.relation.specs.First.{First}
 use Rattle.deciding.specs.Deciding.{Prepared}
@@ -40,13 +41,13 @@ module _ (n m : ℕ) {rules entries : List ℕ} (s : Sized n m rules entries) (k
     entries_size = s.entries_size;
   }
 
-  pub rule_prepared : {rows order reach ruled new : List ℕ} {place : ℕ} → Prepared n m rows rules order reach ruled → First (bit reach kind) 0 128 place
+  pub rule_prepared : {rows : Relation} {order : List ℕ} {reach ruled new : Relation} {place : ℕ} → Prepared n m rows rules order reach ruled → First (bit reach kind) 0 128 place
       → Reset mark place (not (eqb handling 0)) ruled new → Prepared n m rows (set rules i handling) order reach new
   rule_prepared {rows} {order} {reach} {ruled} {new} {place} p first r =
       let (within, is) = kind_place n rows order reach p.arranged s.kinds kind kind_in first in
       rw at
       (prepared_set m rules kind mark handling mark-in n s.rules_size rows order reach ruled new place within is p
-      (λ before here. changed (not (eqb handling 0)) here before) (λ b. refl) (λ b. refl) r.long r.bits)
+      (λ before here. changed (not (eqb handling 0)) here before) (λ b. refl) (λ b. refl) r.bits)
 
   pub rule_applied : {caller : ℕ} {up : ℕ → ℕ → Bool} {new before tally disputes : List ℕ} {count : ℕ} → Settled n m mark (mark + 1) up (set rules i handling) entries new count
       → Counted m new disputes → tally ≡ tallied caller before
@@ -56,7 +57,7 @@ module _ (n m : ℕ) {rules entries : List ℕ} (s : Sized n m rules entries) (k
 -- ---- the edit, on tables that are known to be sound
 
 module _ (n m : ℕ) (t : Tables) (kind mark handling : ℕ) where
-  module _ {rows order reach ruled : List ℕ} (k : Known n m t rows order reach ruled) (mark-in : mark < m) where
+  module _ {rows : Relation} {order : List ℕ} {reach ruled : Relation} (k : Known n m t rows order reach ruled) (mark-in : mark < m) where
     pub rule_untouched : RuleUntouched n m kind mark (bit rows) (stored m t.rules kind mark handling) t.entries
     unfolding Untouched
     rule_untouched =

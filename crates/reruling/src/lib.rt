@@ -10,30 +10,30 @@ ghost use Rattle.resettling.specs.Edits.{Reset};
 ghost use Rattle.resettling.specs.Known.{Known, Tracked};
 ghost use Rattle.tables.specs.Caller.{callers};
 ghost use Rattle.tables.specs.Calls.{leaves};
-ghost use Rattle.tables.specs.Reply.{edited};
+ghost use Rattle.tables.specs.Reply.{replied};
 ghost use Rattle.tables.specs.Tables.{Sized, lent};
 ghost use Rattle.reruling.specs.Reruled.{stored, rule_edit, RuleUntouched, Applied};
 
 use inheritance::{Kind, Mark};
-use relation::{next, unmark};
+use relation::Relation;
 use resettling::{count_edit, resettle_rule};
-use tables::{Caller, Edited, Refusal, place};
+use tables::{Caller, Refusal, place};
 
-// The kind at place i is put among the rule kinds of a mark, or taken out where the handling is 0.
-fn rerule(ruled: &mut [u64; 256], mark: Mark, i: usize, handling: u16)
-    requires { (mark.0 < 64) × (i < 128) × (length ruled.old ≡ 256) }
+/// The kind at place i is put among the rule kinds of a mark, or taken out where the handling is 0.
+fn rerule(ruled: &mut Relation, mark: Mark, i: usize, handling: u16)
+    requires { (mark.0 < 64) × (i < 128) }
     ensures { Reset mark.0 i (not (eqb handling 0)) ruled.old ruled.new }
 {
     let j = mark.0 as usize;
     if handling == 0 {
-        unmark(ruled, j, i);
+        ruled.remove(j, i);
     } else {
-        relation::mark(ruled, j, i);
+        ruled.insert(j, i);
     }
 }
 
-// The rule of a kind for a mark is stored, what it can touch is settled, and the edit is counted. How many entries differ from
-// before.
+/// The rule of a kind for a mark is stored, what it can touch is settled, and the edit is counted. How many entries differ from
+/// before.
 fn apply_rule(
     n: u16,
     m: u16,
@@ -41,10 +41,10 @@ fn apply_rule(
     entries: &mut [u16],
     tally: &mut [u32],
     disputes: &mut [u16],
-    rows: &[u64; 256],
+    rows: &Relation,
     order: &[u8; 128],
-    reach: &[u64; 256],
-    ruled: &mut [u64; 256],
+    reach: &Relation,
+    ruled: &mut Relation,
     caller: Caller,
     kind: Kind,
     mark: Mark,
@@ -58,7 +58,8 @@ fn apply_rule(
         × (Prepared n m rows.now rules.new order.now reach.now ruled.new) }
 {
     rules[place(kind, mark, m)] = handling;
-    rerule(ruled, mark, next(reach, kind.0 as usize, 0), handling);
+    let at = reach.row(kind.0 as usize).first(0, 128).unwrap();
+    rerule(ruled, mark, at, handling);
     let count = resettle_rule(
         rows, order, reach, ruled, n as usize, m as usize, kind, mark, rules, entries, disputes,
     );
@@ -66,8 +67,8 @@ fn apply_rule(
     count
 }
 
-// The rule of a kind of the book for a mark of it is set, and a handling of 0 takes it. Of the links only the promise speaks: the rows
-// have them.
+/// The rule of a kind of the book for a mark of it is set, and a handling of 0 takes it. Of the links only the promise speaks: the rows
+/// have them.
 pub fn set_rule(
     n: u16,
     m: u16,
@@ -76,26 +77,26 @@ pub fn set_rule(
     entries: &mut [u16],
     tally: &mut [u32],
     disputes: &mut [u16],
-    rows: &[u64; 256],
+    rows: &Relation,
     order: &[u8; 128],
-    reach: &[u64; 256],
-    ruled: &mut [u64; 256],
+    reach: &Relation,
+    ruled: &mut Relation,
     caller: Caller,
     kind: Kind,
     mark: Mark,
     handling: u16,
-) -> Edited
+) -> Result<u16, Refusal>
     requires { (Known n m (lent links.now rules.old entries.old tally.old disputes.old) rows.now order.now reach.now ruled.old) × (caller.0 < callers) × (kind.0 < n) × (mark.0 < m) }
-    ensures { (leaves (edited result) (lent links.now rules.new entries.new tally.new disputes.new)
+    ensures { (leaves (replied result) (lent links.now rules.new entries.new tally.new disputes.new)
         ≡ rule_edit n m (lent links.now rules.old entries.old tally.old disputes.old) caller.0 kind.0 mark.0 handling)
         × (Tracked n m (lent links.now rules.new entries.new tally.new disputes.new) rows.now order.now reach.now ruled.new) }
 {
     if (handling == 0) & (rules[place(kind, mark, m)] == 0) {
-        return Edited::Refused(Refusal::NoRule);
+        return Err(Refusal::NoRule);
     }
     let count = apply_rule(
         n, m, rules, entries, tally, disputes, rows, order, reach, ruled, caller, kind, mark,
         handling,
     );
-    Edited::Done(count)
+    Ok(count)
 }

@@ -3,7 +3,7 @@
 --     known           what is known, from what `examine` answers
 --     has, acyclic, looked, counts    what sound tables have; no kind is above itself, the entries are the lookups by the rows, and the dispute counts
 --                     are those of the entries
---     known_place     the place of a kind of the book
+--     known_place, known_place_found    the place of a kind of the book, which a search along its row finds
 --     given_accepted  entries, dispute counts and count of an accepted edit, as the whole that it leaves
 -- Assumes nothing.
 use mathlib.Core.Path.{◌≡◌, refl, sym, ◌∙◌, ap}
@@ -12,15 +12,18 @@ use mathlib.Core.List.{List}
 use Prim.Native.Nat.{ℕ, ◌*◌, ◌<◌}
 use native.Mathlib.Omega.{arith}
 use lib.ListN.{length, get_or}
+use Rattle.std.specs.Prelude.{Option, Some}
+use Rattle.std.specs.Option.{IsSome}
 use Rattle.inheritance.specs.Above.{Acyclic}
 use Rattle.counting.specs.Counting.{Counted}
 use Rattle.counting.proofs.CountLaws.{counted, counts_of}
-use Rattle.relation.specs.Bit.{bit}
-use Rattle.relation.specs.First.{First}
+use Rattle.relation.specs.declared.Relation.{Relation}
+use Rattle.relation.specs.Bit.{bit, holds, row_of}
+use Rattle.relation.specs.First.{First, Found}
 use Rattle.loading.specs.Loaded.{Loaded}
 use Rattle.soundness.specs.Examined.{Examined}
 use Rattle.settling.proofs.Editing.{Accepted}
-use Rattle.deciding.proofs.Preparing.{kind_place}
+use Rattle.deciding.proofs.Preparing.{kind_place, place_found}
 use Rattle.soundness.proofs.Soundness.{rows_links, links_rows}
 use Rattle.tables.specs.Caller.{callers}
 use Rattle.tables.specs.Calls.{leaves, accepted}
@@ -38,7 +41,7 @@ module _ (n m : ℕ) (t : Tables) where
   pub fits_tally : shaped n m t ≡ true → length t.tally ≡ callers
   fits_tally fits = let s = sized_facts 1 1 n m _ _ _ _ _ fits in omega (arith, s.tally_length)
 
-  pub known : (rows order reach ruled : List ℕ) {r : Bool} → shaped n m t ≡ true → Examined n m t.links t.rules t.entries t.disputes rows order reach ruled r → r ≡ true
+  pub known : (rows : Relation) (order : List ℕ) (reach ruled : Relation) {r : Bool} → shaped n m t ≡ true → Examined n m t.links t.rules t.entries t.disputes rows order reach ruled r → r ≡ true
       → Known n m t rows order reach ruled
   known rows order reach ruled fits examined found = record {
     fits = fits;
@@ -47,7 +50,7 @@ module _ (n m : ℕ) (t : Tables) where
   }
 
   -- the rows have the links
-  pub given_accepted : (caller : ℕ) (links rules rows : List ℕ) → LengthsOf n m t → Loaded n links rows → Acyclic n (bit rows)
+  pub given_accepted : (caller : ℕ) (links rules : List ℕ) (rows : Relation) → LengthsOf n m t → Loaded n links rows → Acyclic n (bit rows)
       → {new disputes : List ℕ} {count : ℕ} → Accepted n m (bit rows) rules t.entries new count → Counted m new disputes
       → leaves (given count) (lent links rules new (tallied caller t.tally) disputes) ≡ accepted n m t caller links rules
   unfolding accepted
@@ -56,7 +59,7 @@ module _ (n m : ℕ) (t : Tables) where
       let counted = counts_of n m (ap length a.0 ∙ length_entries_of n m (bit rows) rules) lengths.marks.0 counts in
       rw (counted, a.0, a.1, same) refl
 
-module _ {n m : ℕ} {t : Tables} {rows order reach ruled : List ℕ} (k : Known n m t rows order reach ruled) where
+module _ {n m : ℕ} {t : Tables} {rows : Relation} {order : List ℕ} {reach ruled : Relation} (k : Known n m t rows order reach ruled) where
   pub has : Passed n m t
   has = passed n m t k.fits k.is_sound
 
@@ -75,3 +78,7 @@ module _ {n m : ℕ} {t : Tables} {rows order reach ruled : List ℕ} (k : Known
 
   pub known_place : (c : ℕ) → c < n → {i : ℕ} → First (bit reach c) 0 128 i → (i < n) × (get_or order i 0 ≡ c)
   known_place c h first = kind_place n rows order reach k.tracked.prepared.arranged has.sizes.kinds c h first
+
+  pub known_place_found : (c : ℕ) → c < n → {answer : Option ℕ} → Found (holds (row_of reach c)) 0 128 answer
+      → IsSome answer × ((i : ℕ) → answer ≡ Some i → First (bit reach c) 0 128 i)
+  known_place_found c h {answer} found = place_found n rows order reach k.tracked.prepared.arranged has.sizes.kinds c h answer found

@@ -8,9 +8,11 @@ use mathlib.Core.List.{List}
 use Prim.Native.Nat.{ℕ, ◌<◌, ◌≤◌}
 use Rattle.inheritance.proofs.TouchLaws.{below_carries}
 use Rattle.propagation.specs.Spread.{under, stop, Touched}
+use Rattle.relation.specs.declared.KindSet.{KindSet}
+use Rattle.relation.specs.declared.Relation.{Relation}
 use Rattle.relation.specs.Bit.{bit}
-use Rattle.closing.specs.Turned.{Turned}
-use Rattle.closing.proofs.Turning.{turned_within}
+use Rattle.relation.specs.Turned.{Turned}
+use Rattle.relation.proofs.Turning.{turned_within}
 use Rattle.settling.specs.Settled.{Awaiting}
 use Rattle.resettling.specs.Edits.{Untouched}
 
@@ -21,7 +23,7 @@ module _ (n m lo hi : ℕ) (e : ℕ) (rules entries : List ℕ) where
   untouched_stops up own own' same known visited reached =
       known visited (λ k hk below. reached k hk (below_carries n up up own own' e (λ c p hc hp ne. refl) (λ c hc ne. same c hc) hk below))
 
-  pub untouched_awaiting : (rows children stops visited : List ℕ) → n ≤ 128 → Turned n rows children
+  pub untouched_awaiting : (rows children : Relation) (stops visited : KindSet) → n ≤ 128 → Turned n rows children
       → Touched n (under children) (stop stops) e visited → Untouched n m lo hi (bit rows) (stop stops) e rules entries
       → Awaiting n m lo hi (bit rows) rules visited entries
   unfolding Untouched

@@ -10,23 +10,23 @@ ghost use Rattle.tables.specs.Tables.{Sized, own_of};
 ghost use Rattle.resettling.specs.Edits.{Untouched};
 
 use crate::stops::own_rules;
-use closing::turn;
 use inheritance::{Kind, Mark};
 use propagation::touched;
+use relation::{KindSet, Relation};
 use settling::settle;
 
 // The entries for the marks from lo to below hi become their lookups after a change at kind e that goes no farther than
 // the stops. How many were others.
 fn resettle(
-    rows: &[u64; 256],
+    rows: &Relation,
     order: &[u8; 128],
-    reach: &[u64; 256],
-    ruled: &[u64; 256],
+    reach: &Relation,
+    ruled: &Relation,
     n: usize,
     m: usize,
     lo: usize,
     hi: usize,
-    stops: &[u8; 128],
+    stops: KindSet,
     e: Kind,
     rules: &[u16],
     entries: &mut [u16],
@@ -34,26 +34,25 @@ fn resettle(
 ) -> u16
     requires sized_and_counted { (Sized n m rules.now entries.old) × (MarkRange m lo hi) × (e.0 < n) × (Counted m entries.old disputes.old) }
     requires prepared { Prepared n m rows.now rules.now order.now reach.now ruled.now }
-    requires untouched { Untouched n m lo hi (bit rows.now) (stop stops.now) e.0 rules.now entries.old }
+    requires untouched { Untouched n m lo hi (bit rows.now) (stop stops) e.0 rules.now entries.old }
     ensures { (Settled n m lo hi (bit rows.now) rules.now entries.old entries.new result)
         × (Counted m entries.new disputes.new) }
 {
-    let mut children = [0u64; 256];
-    turn(rows, n, &mut children);
-    let mut visited = [0u8; 128];
+    let mut children = Relation::empty();
+    children.turn(rows, n);
     let changed = e.0 as usize;
-    touched(&children, n, stops, changed, &mut visited);
+    let visited = touched(&children, n, stops, changed);
     settle(
-        rows, order, reach, ruled, n, m, lo, hi, &visited, rules, entries, disputes,
+        rows, order, reach, ruled, n, m, lo, hi, visited, rules, entries, disputes,
     )
 }
 
 // The same after a change of the rule of a kind for a mark: no other mark is touched, and an own rule stops it.
 pub fn resettle_rule(
-    rows: &[u64; 256],
+    rows: &Relation,
     order: &[u8; 128],
-    reach: &[u64; 256],
-    ruled: &[u64; 256],
+    reach: &Relation,
+    ruled: &Relation,
     n: usize,
     m: usize,
     kind: Kind,
@@ -68,8 +67,7 @@ pub fn resettle_rule(
     ensures { (Settled n m mark.0 (mark.0 + 1) (bit rows.now) rules.now entries.old entries.new result)
         × (Counted m entries.new disputes.new) }
 {
-    let mut stops = [0u8; 128];
-    own_rules(rules, n, m, mark, &mut stops);
+    let stops = own_rules(rules, n, m, mark);
     let j = mark.0 as usize;
     resettle(
         rows,
@@ -80,7 +78,7 @@ pub fn resettle_rule(
         m,
         j,
         j + 1,
-        &stops,
+        stops,
         kind,
         rules,
         entries,
@@ -90,10 +88,10 @@ pub fn resettle_rule(
 
 // The same after a change of a link of a child: every mark is worked out, at every kind below the child.
 pub fn resettle_link(
-    rows: &[u64; 256],
+    rows: &Relation,
     order: &[u8; 128],
-    reach: &[u64; 256],
-    ruled: &[u64; 256],
+    reach: &Relation,
+    ruled: &Relation,
     n: usize,
     m: usize,
     child: Kind,
@@ -107,8 +105,8 @@ pub fn resettle_link(
     ensures { (Settled n m 0 m (bit rows.now) rules.now entries.old entries.new result)
         × (Counted m entries.new disputes.new) }
 {
-    let stops = [0u8; 128];
+    let stops = KindSet::EMPTY;
     resettle(
-        rows, order, reach, ruled, n, m, 0, m, &stops, child, rules, entries, disputes,
+        rows, order, reach, ruled, n, m, 0, m, stops, child, rules, entries, disputes,
     )
 }

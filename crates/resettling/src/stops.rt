@@ -3,15 +3,19 @@ ghost use Rattle.std.specs.Prelude.{◌≡◌, ◌*◌, ◌<◌, ◌≤◌, leng
 ghost use Rattle.resettling.specs.Stops.{Stops};
 
 use inheritance::Mark;
+use relation::KindSet;
 
-// The kinds with an own rule for the mark become the stops, whatever was there.
-pub fn own_rules(rules: &[u16], n: usize, m: usize, mark: Mark, stops: &mut [u8; 128])
+// The kinds with an own rule for the mark.
+pub fn own_rules(rules: &[u16], n: usize, m: usize, mark: Mark) -> KindSet
     requires { (n ≤ 128) × (mark.0 < m) × (length rules.now ≡ n * m) }
-    ensures { Stops n m rules.now mark.0 stops.new }
+    ensures { Stops n m rules.now mark.0 result }
 {
-    *stops = [0u8; 128];
+    let mut stops = KindSet::EMPTY;
     let j = mark.0 as usize;
     for c in 0..n {
-        stops[c] = (rules[c * m + j] != 0) as u8;
+        if rules[c * m + j] != 0 {
+            stops = stops.with(c);
+        }
     }
+    stops
 }

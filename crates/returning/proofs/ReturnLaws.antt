@@ -7,12 +7,13 @@ use mathlib.Core.Bool.{Bool, true, false, ◌&&◌, not}
 use Prim.Native.Nat.{ℕ}
 use lib.Dec.{eqb, ltb}
 use lib.ListN.{get_or}
-use Rattle.asking.specs.declared.CallerAsked.{CallerAsked}
-use Rattle.asking.specs.Ask.{checked_caller}
-use Rattle.asking.proofs.AskLaws.{AskedBy, by_passes, caller_refuses}
+use Rattle.std.specs.Prelude.{Result}
+use Rattle.books.specs.Ask.{checked_caller}
+use Rattle.books.proofs.AskLaws.{AskedBy, by_passes, caller_refuses}
 use Rattle.stores.specs.declared.Name.{Name}
-use Rattle.stores.specs.Name.{names, name_below}
+use Rattle.stores.specs.Name.{names, name_below, asked_state}
 use Rattle.stores.specs.Store.{Store, stored, state_at, return_to}
+use Rattle.stores.proofs.NameLaws.{AskedUnder, state_passes, state_refuses}
 use Rattle.tables.specs.declared.Caller.{Caller}
 use Rattle.tables.specs.declared.Refusal.{Refusal}
 use Rattle.tables.specs.Caller.{callers}
@@ -21,9 +22,6 @@ use Rattle.tables.specs.Reply.{refused, refusal_number}
 use Rattle.tables.specs.Tables.{Tables, shaped, tallied}
 use Rattle.tables.proofs.CallLaws.{check_failed}
 use Rattle.replacing.specs.Replaced.{replaced}
-use Rattle.state_checks.specs.declared.StateAsked.{StateAsked}
-use Rattle.state_checks.specs.StateCheck.{asked_state}
-use Rattle.state_checks.proofs.StateLaws.{AskedUnder, state_passes, state_refuses}
 
 both_false : (a b : Bool) → b ≡ false → (a && b) ≡ false
 both_false true b is = is
@@ -50,14 +48,14 @@ module _ (n m : ℕ) (t : Tables) (s : Store) (c number : ℕ) where
     unfolding return_to replaced
     begins = ap (λ (b : Bool). check 1 b t (check 13 (ltb c callers) t rest)) (both_true (shaped n m t) (stored n m s) held)
 
-    pub caller_refused : {why : Refusal} → checked_caller n m t c ≡ CallerAsked.Refused why → leaves (refused (refusal_number why)) t ≡ return_to n m t s c number
+    pub caller_refused : {why : Refusal} → checked_caller n m t c ≡ Result.Err why → leaves (refused (refusal_number why)) t ≡ return_to n m t s c number
     caller_refused e = sym (begins ∙ caller_refuses n m t c rest e)
 
     module _ {by : Caller} (a : AskedBy n m t c by) where
       asked : return_to n m t s c number ≡ rest
       asked = begins ∙ by_passes n m t c rest a.fits a.caller_in_range
 
-      pub state_refused : {why : Refusal} → asked_state s.flags (name_below number) ≡ StateAsked.Refused why
+      pub state_refused : {why : Refusal} → asked_state s.flags (name_below number) ≡ Result.Err why
           → leaves (refused (refusal_number why)) t ≡ return_to n m t s c number
       state_refused e = sym (asked ∙ state_refuses s.flags number t _ e)
 

@@ -4,18 +4,19 @@
 ghost use Rattle.std.specs.Prelude.{◌≡◌, true, ◌<◌};
 ghost use Rattle.tables.specs.Caller.{callers};
 ghost use Rattle.tables.specs.Calls.{leaves, add_rule, take_rule};
-ghost use Rattle.tables.specs.Reply.{edited};
+ghost use Rattle.tables.specs.Reply.{replied};
 ghost use Rattle.tables.specs.Tables.{lent, shaped};
 ghost use Rattle.reruling.specs.Reruled.{rule_edit};
 ghost use Rattle.rule_edits.specs.RuleEdit.{rule_call};
 
-use asking::{Asked, CallerAsked, ask_caller, ask_rule};
+use books::{Tables, ask_rule};
 use inheritance::{Kind, Mark};
+use relation::Relation;
 use reruling::set_rule;
 use soundness::examine;
-use tables::{Caller, Edited, Refusal};
+use tables::{Caller, Refusal};
 
-// The rule of a kind of the book for a mark of it is set, and a handling of 0 takes it.
+/// The rule of a kind of the book for a mark of it is set, and a handling of 0 takes it.
 fn edit_rule(
     n: u16,
     m: u16,
@@ -28,21 +29,21 @@ fn edit_rule(
     kind: Kind,
     mark: Mark,
     handling: u16,
-) -> Edited
+) -> Result<u16, Refusal>
     requires { (shaped n m (lent links.now rules.old entries.old tally.old disputes.old) ≡ true) × (caller.0 < callers) × (kind.0 < n) × (mark.0 < m) }
-    ensures { leaves (edited result) (lent links.now rules.new entries.new tally.new disputes.new)
+    ensures { leaves (replied result) (lent links.now rules.new entries.new tally.new disputes.new)
         ≡ rule_edit n m (lent links.now rules.old entries.old tally.old disputes.old) caller.0 kind.0 mark.0 handling }
 {
-    let mut rows = [0u64; 256];
+    let mut rows = Relation::empty();
     let mut order = [0u8; 128];
-    let mut reach = [0u64; 256];
-    let mut ruled = [0u64; 256];
+    let mut reach = Relation::empty();
+    let mut ruled = Relation::empty();
     let sound = examine(
         n as usize, m as usize, links, rules, entries, disputes, &mut rows, &mut order, &mut reach,
         &mut ruled,
     );
     if !sound {
-        return Edited::Refused(Refusal::Unsound);
+        return Err(Refusal::Unsound);
     }
     set_rule(
         n, m, links, rules, entries, tally, disputes, &rows, &order, &reach, &mut ruled, caller,
@@ -50,7 +51,7 @@ fn edit_rule(
     )
 }
 
-// The rule of any kind for any mark is set, and a handling of 0, which an add refuses, takes it.
+/// The rule of any kind for any mark is set, or taken where no handling is given.
 fn change_rule(
     n: u16,
     m: u16,
@@ -62,26 +63,29 @@ fn change_rule(
     caller: Caller,
     kind: Kind,
     mark: Mark,
-    handling: u16,
-    adding: bool,
-) -> Edited
-    ensures { leaves (edited result) (lent links.now rules.new entries.new tally.new disputes.new)
-        ≡ rule_call n m (lent links.now rules.old entries.old tally.old disputes.old) caller.0 kind.0 mark.0 handling adding }
+    handling: Option<u16>,
+) -> Result<u16, Refusal>
+    ensures { leaves (replied result) (lent links.now rules.new entries.new tally.new disputes.new)
+        ≡ rule_call n m (lent links.now rules.old entries.old tally.old disputes.old) caller.0 kind.0 mark.0 handling }
 {
-    match ask_caller(n, m, links, rules, entries, tally, disputes, caller) {
-        CallerAsked::Refused(why) => Edited::Refused(why),
-        CallerAsked::By(by) => match ask_rule(n, m, kind, mark, handling, adding) {
-            Asked::Refused(why) => Edited::Refused(why),
-            Asked::At(k, j) => {
-                edit_rule(
-                    n, m, links, rules, entries, tally, disputes, by, k, j, handling,
-                )
-            }
-        },
-    }
+    let lent = Tables {
+        n,
+        m,
+        links,
+        rules,
+        entries,
+        tally,
+        disputes,
+    };
+    let by = lent.ask_caller(caller)?;
+    let (kind, mark) = ask_rule(n, m, kind, mark, handling)?;
+    let stored = handling.unwrap_or(0);
+    edit_rule(
+        n, m, links, rules, entries, tally, disputes, by, kind, mark, stored,
+    )
 }
 
-// A kind gets its own rule for a mark. A rule already there is replaced.
+/// A kind gets its own rule for a mark. A rule already there is replaced.
 pub fn add_rule(
     n: u16,
     m: u16,
@@ -94,16 +98,26 @@ pub fn add_rule(
     kind: Kind,
     mark: Mark,
     handling: u16,
-) -> Edited
-    ensures { leaves (edited result) (lent links.now rules.new entries.new tally.new disputes.new)
+) -> Result<u16, Refusal>
+    ensures { leaves (replied result) (lent links.now rules.new entries.new tally.new disputes.new)
         ≡ add_rule n m (lent links.now rules.old entries.old tally.old disputes.old) caller.0 kind.0 mark.0 handling }
 {
     change_rule(
-        n, m, links, rules, entries, tally, disputes, caller, kind, mark, handling, true,
+        n,
+        m,
+        links,
+        rules,
+        entries,
+        tally,
+        disputes,
+        caller,
+        kind,
+        mark,
+        Some(handling),
     )
 }
 
-// A kind loses its own rule for a mark.
+/// A kind loses its own rule for a mark.
 pub fn take_rule(
     n: u16,
     m: u16,
@@ -115,11 +129,11 @@ pub fn take_rule(
     caller: Caller,
     kind: Kind,
     mark: Mark,
-) -> Edited
-    ensures { leaves (edited result) (lent links.now rules.new entries.new tally.new disputes.new)
+) -> Result<u16, Refusal>
+    ensures { leaves (replied result) (lent links.now rules.new entries.new tally.new disputes.new)
         ≡ take_rule n m (lent links.now rules.old entries.old tally.old disputes.old) caller.0 kind.0 mark.0 }
 {
     change_rule(
-        n, m, links, rules, entries, tally, disputes, caller, kind, mark, 0, false,
+        n, m, links, rules, entries, tally, disputes, caller, kind, mark, None,
     )
 }

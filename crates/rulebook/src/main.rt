@@ -4,6 +4,8 @@
 
 ghost use Rattle.std.specs.Prelude.{◌≤◌, length};
 
+use arrayvec::ArrayVec;
+use session::Desk;
 use std::io::Read;
 use stream::{BLOCK, OUTPUT};
 use tables::TALLIES;
@@ -23,8 +25,7 @@ fn read<R: Eprint>(rt: &R, input: &mut impl Read, block: &mut [u8; BLOCK]) -> us
 fn write<R: Print + Eprint>(rt: &R, out: &[u8; OUTPUT], waiting: usize) -> bool
     requires { waiting ≤ length out.now }
 {
-    let whole: &[u8] = out;
-    match rt.write_all(&whole[..waiting]) {
+    match rt.write_all(&out[..waiting]) {
         Ok(()) => true,
         Err(why) => {
             let _ = eprintln!(rt; "rulebook: standard output: {why}");
@@ -34,58 +35,46 @@ fn write<R: Print + Eprint>(rt: &R, out: &[u8; OUTPUT], waiting: usize) -> bool
 }
 
 // Answers the whole input, block by block. After a write that failed there is nobody to answer, and nothing more is written. A proved loop
-// has to end, and nothing says that the input does: the turns count down from a number that no run uses up.
-#[tactic(auto, using(buffers::proofs::BufferLaws::put_fits))]
+// has to end, and nothing says that the input does: the turns are a number that no run uses up.
+#[tactic(auto, using(stream::proofs::BufferLaws::put_fits))]
 fn run<R: Input + Print + Eprint>(
     rt: &R,
+    desk: &mut Desk,
     block: &mut [u8; BLOCK],
-    carry: &mut [u8; 65],
-    links: &mut [u8; 16384],
-    rules: &mut [u16; 8192],
-    entries: &mut [u16; 8192],
-    tally: &mut [u32; TALLIES],
-    disputes: &mut [u16; 64],
+    carry: &mut ArrayVec<u8, 65>,
     out: &mut [u8; OUTPUT],
 ) {
     let mut input = rt.reader();
-    let mut state = stream::fresh();
-    let mut taken = true;
-    let mut coming = true;
-    let mut turns = u64::MAX;
-    while (0 < turns) & coming {
+    for _ in 0..u64::MAX {
         let count = read(rt, &mut input, block);
-        state = stream::work(
-            block, count, state, carry, links, rules, entries, tally, disputes, out,
-        );
-        taken = write(rt, out, state.waiting);
-        coming = (0 < count) & taken;
-        turns -= 1;
+        let waiting = stream::work(desk, block, count, carry, out);
+        if !write(rt, out, waiting) {
+            return;
+        }
+        if count == 0 {
+            break;
+        }
     }
-    if taken {
-        let waiting = stream::close(state, carry, links, rules, entries, tally, disputes, out);
-        write(rt, out, waiting);
-    }
+    let waiting = stream::close(desk, carry, out);
+    write(rt, out, waiting);
 }
 
 // The tables of the largest book, and the buffers.
 fn main(rt: HostRuntime) {
-    let mut links = [0u8; 16384];
-    let mut rules = [0u16; 8192];
-    let mut entries = [0u16; 8192];
-    let mut tally = [0u32; TALLIES];
-    let mut disputes = [0u16; 64];
-    let mut carry = [0u8; 65];
-    let mut block = [0u8; BLOCK];
-    let mut out = [0u8; OUTPUT];
-    run(
-        &rt,
-        &mut block,
-        &mut carry,
+    let mut links = [0; 16384];
+    let mut rules = [0; 8192];
+    let mut entries = [0; 8192];
+    let mut tally = [0; TALLIES];
+    let mut disputes = [0; 64];
+    let mut desk = Desk::new(
         &mut links,
         &mut rules,
         &mut entries,
         &mut tally,
         &mut disputes,
-        &mut out,
     );
+    let mut block = [0; BLOCK];
+    let mut carry = ArrayVec::new();
+    let mut out = [0; OUTPUT];
+    run(&rt, &mut desk, &mut block, &mut carry, &mut out);
 }

@@ -17,6 +17,7 @@ use borrow.Author.Tests.{lt-ltb, le-ltb, ltb-true, lt-leb, le-leb}
 use lib.Dec.{eqb, leb, ltb}
 use lib.ListN.{get_or, length, set, length-set}
 use lib.Seq.{get_or-set_same, get_or-set_other}
+use Rattle.relation.specs.declared.Relation.{Relation}
 use Rattle.relation.specs.Bit.{bit, on, Blank, Octet, Added}
 use Rattle.inheritance.proofs.Bools.{same_bool}
 use Rattle.relation.proofs.Bools.{one_more}
@@ -33,13 +34,12 @@ module _ (q : ℕ) (bits : List ℕ) where
   abbrev pub eights : ℕ → ℕ → ℕ → Bool
   eights k j p = ltb j k && (leb (8 * q) p && on (get_or bits j 0) (p - 8 * q))
 
-  pub put_none : (rows : List ℕ) → length rows ≡ 256 → Added rows rows (eights 0)
-  put_none rows l = record { long = l; bits = λ j p h. rw (le-ltb j 0 zero-le, or-false) refl }
+  pub put_none : (rows : Relation) → Added rows rows (eights 0)
+  put_none rows = record { bits = λ j p h. rw (le-ltb j 0 zero-le, or-false) refl }
 
-  pub put_more : (k : ℕ) {old mid new : List ℕ} → Added old mid (eights k)
+  pub put_more : (k : ℕ) {old mid new : Relation} → Added old mid (eights k)
       → Added mid new (λ j p. eqb j k && (leb (8 * q) p && on (get_or bits k 0) (p - 8 * q))) → Added old new (eights (k + 1))
   put_more k {old} a b = record {
-    long = b.long;
     bits = λ j p h. b.bits j p h ∙ rw (a.bits j p h) (or_assoc (bit old j p) _ _
         ∙ ap (λ (t : Bool). bit old j p || t) (one_more (λ j. leb (8 * q) p && on (get_or bits j 0) (p - 8 * q)) j k));
   }
@@ -48,19 +48,18 @@ module _ (m : ℕ) (rules order : List ℕ) where
   pub standing : {n : ℕ} → n ≤ 128 → length rules ≡ n * m → ((i : ℕ) → i < n → get_or order i 0 < n) → Standing m rules order n
   standing {n} most size kinds i h = let k = kinds i h in (omega arith, row_in n m (get_or order i 0) size k)
 
-  pub ruled_none : {ruled : List ℕ} → Blank ruled → Ruled 0 m rules order ruled
-  ruled_none b = record { long = b.long; bits = λ j i h. rw (le-ltb i 0 zero-le) (b.none j i) }
+  pub ruled_none : {ruled : Relation} → Blank ruled → Ruled 0 m rules order ruled
+  ruled_none b = record { bits = λ j i h. rw (le-ltb i 0 zero-le) (b.none j i) }
 
-  pub ruled_more : (i : ℕ) {old new : List ℕ} → Ruled i m rules order old
+  pub ruled_more : (i : ℕ) {old new : Relation} → Ruled i m rules order old
       → Added old new (λ j q. eqb q i && (ltb j m && own_of m rules j (get_or order i 0))) → Ruled (i + 1) m rules order new
   ruled_more i r a = record {
-    long = a.long;
     bits = λ j q h. a.bits j q h ∙ rw (r.bits j q h) (one_more (λ q. ltb j m && own_of m rules j (get_or order q 0)) q i);
   }
 
   module _ (q : ℕ) (bits : List ℕ) where
-    pub ruled_octet : {old new : List ℕ} → Octets m m rules order (8 * q) bits → Ruled (8 * q) m rules order old → Added old new (eights q bits m) → Ruled (8 * (q + 1)) m rules order new
-    ruled_octet o r a = record { long = a.long; bits = λ j p h. a.bits j p h ∙ rw (r.bits j p h) (go j p (ltb j m) refl) }
+    pub ruled_octet : {old new : Relation} → Octets m m rules order (8 * q) bits → Ruled (8 * q) m rules order old → Added old new (eights q bits m) → Ruled (8 * (q + 1)) m rules order new
+    ruled_octet o r a = record { bits = λ j p h. a.bits j p h ∙ rw (r.bits j p h) (go j p (ltb j m) refl) }
       where
         is : ℕ → ℕ → Bool
         is j p = own_of m rules j (get_or order p 0)
@@ -97,19 +96,19 @@ module _ (own : ℕ → Bool) (i : ℕ) where
   abbrev pub marks : ℕ → ℕ → ℕ → Bool
   marks k j q = eqb q i && (ltb j k && own j)
 
-  pub marks_none : (rows : List ℕ) → length rows ≡ 256 → Added rows rows (marks 0)
-  marks_none rows l = record { long = l; bits = λ j q h. rw (le-ltb j 0 zero-le, and-false, or-false) refl }
+  pub marks_none : (rows : Relation) → Added rows rows (marks 0)
+  marks_none rows = record { bits = λ j q h. rw (le-ltb j 0 zero-le, and-false, or-false) refl }
 
-  pub marks_more : (k : ℕ) {old mid new : List ℕ} → own k ≡ true → Added old mid (marks k) → Added mid new (λ j q. eqb j k && eqb q i) → Added old new (marks (k + 1))
+  pub marks_more : (k : ℕ) {old mid new : Relation} → own k ≡ true → Added old mid (marks k) → Added mid new (λ j q. eqb j k && eqb q i) → Added old new (marks (k + 1))
   marks_more k {old} is a b =
-      record { long = b.long; bits = λ j q h. b.bits j q h ∙ rw (a.bits j q h) (or_assoc (bit old j q) _ _ ∙ ap (λ (t : Bool). bit old j q || t) (go j q (eqb q i))) }
+      record { bits = λ j q h. b.bits j q h ∙ rw (a.bits j q h) (or_assoc (bit old j q) _ _ ∙ ap (λ (t : Bool). bit old j q || t) (go j q (eqb q i))) }
     where
       go : (j q : ℕ) (t : Bool) → ((t && (ltb j k && own j)) || (eqb j k && t)) ≡ (t && (ltb j (k + 1) && own j))
       go j q true = rw (← is) (one_more own j k)
       go j q false = and-false (eqb j k)
 
-  pub marks_skip : (k : ℕ) {old mid : List ℕ} → own k ≡ false → Added old mid (marks k) → Added old mid (marks (k + 1))
-  marks_skip k {old} off a = record { long = a.long; bits = λ j q h. a.bits j q h ∙ ap (λ (t : Bool). bit old j q || (eqb q i && t)) (go j) }
+  pub marks_skip : (k : ℕ) {old mid : Relation} → own k ≡ false → Added old mid (marks k) → Added old mid (marks (k + 1))
+  marks_skip k {old} off a = record { bits = λ j q h. a.bits j q h ∙ ap (λ (t : Bool). bit old j q || (eqb q i && t)) (go j) }
     where
       go : (j : ℕ) → (ltb j k && own j) ≡ (ltb j (k + 1) && own j)
       go j = sym (or-false (ltb j k && own j)) ∙ ap (λ (t : Bool). (ltb j k && own j) || t) (sym (and-false (eqb j k)) ∙ ap (λ (t : Bool). eqb j k && t) (sym off)) ∙ one_more own j k

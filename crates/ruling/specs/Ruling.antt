@@ -4,11 +4,11 @@
 --     Octets               the rule kinds at the eight places from i on as bits, for each mark below k
 -- Assumes nothing.
 use Rattle.std.specs.Prelude.{◌≡◌, ◌&&◌, List, ℕ, ◌+◌, ◌*◌, ◌<◌, ◌≤◌, ltb, length, get_or}
+use Rattle.relation.specs.declared.Relation.{Relation}
 use Rattle.relation.specs.Bit.{bit, Octet}
 use Rattle.tables.specs.Tables.{own_of}
 
-pub record Ruled (n m : ℕ) (rules order ruled : List ℕ) : Type 0 where
-  pub long : length ruled ≡ 256
+pub record Ruled (n m : ℕ) (rules order : List ℕ) (ruled : Relation) : Type 0 where
   pub bits : (j i : ℕ) → i < 128 → bit ruled j i ≡ (ltb i n && (ltb j m && own_of m rules j (get_or order i 0)))
 
 abbrev pub Standing : (m : ℕ) (rules order : List ℕ) (n : ℕ) → Type 0

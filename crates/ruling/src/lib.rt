@@ -7,7 +7,7 @@ ghost use Rattle.relation.specs.Bit.{on, Blank, Octet, Added};
 ghost use Rattle.tables.specs.Tables.{own_of};
 ghost use Rattle.ruling.specs.Ruling.{Ruled, Standing, Octets};
 
-use relation::{mark, mark_octet};
+use relation::Relation;
 
 // Whether kind c has an own rule for mark j.
 fn has_rule(rules: &[u16], m: usize, c: usize, j: usize) -> bool
@@ -24,7 +24,7 @@ fn rule_octet(rules: &[u16], m: usize, order: &[u8; 128], i: usize, j: usize) ->
 {
     let mut bits = 0u8;
     for k in 0..8 {
-        bits = bits | (has_rule(rules, m, order[i + k] as usize, j) as u8) << k;
+        bits = bits | (has_rule(rules, m, usize::from(order[i + k]), j) as u8) << k;
     }
     bits
 }
@@ -40,30 +40,30 @@ fn rule_octets(rules: &[u16], m: usize, order: &[u8; 128], i: usize, bits: &mut 
 }
 
 // The places 8 * q + k of the bits k for mark j are put into row j of ruled, for each mark.
-fn mark_octets(m: usize, q: usize, bits: &[u8; 64], ruled: &mut [u64; 256])
-    requires { (m ≤ 64) × (q < 16) × (length ruled.old ≡ 256) × ((j : ℕ) → j < m → get_or bits.now j 0 < 256) }
+fn mark_octets(m: usize, q: usize, bits: &[u8; 64], ruled: &mut Relation)
+    requires { (m ≤ 64) × (q < 16) × ((j : ℕ) → j < m → get_or bits.now j 0 < 256) }
     ensures { Added ruled.old ruled.new (λ j p. ltb j m && (leb (8 * q) p && on (get_or bits.now j 0) (p - 8 * q))) }
 {
     for j in 0..m {
-        mark_octet(ruled, j, q, bits[j]);
+        ruled.insert_octet(j, q, bits[j]);
     }
 }
 
 // The place i is put into row j of ruled for each mark j for which the kind there has an own rule.
-fn rule_row(rules: &[u16], m: usize, order: &[u8; 128], i: usize, ruled: &mut [u64; 256])
-    requires { (i < 128) × (m ≤ 64) × (length ruled.old ≡ 256) × (Standing m rules.now order.now (i + 1)) }
+fn rule_row(rules: &[u16], m: usize, order: &[u8; 128], i: usize, ruled: &mut Relation)
+    requires { (i < 128) × (m ≤ 64) × (Standing m rules.now order.now (i + 1)) }
     ensures { Added ruled.old ruled.new (λ j q. eqb q i && (ltb j m && own_of m rules.now j (get_or order.now i 0))) }
 {
-    let c = order[i] as usize;
+    let c = usize::from(order[i]);
     for j in 0..m {
         if has_rule(rules, m, c, j) {
-            mark(ruled, j, i);
+            ruled.insert(j, i);
         }
     }
 }
 
 // The places after the last eight, fewer than eight.
-fn rule_rest(rules: &[u16], n: usize, m: usize, order: &[u8; 128], ruled: &mut [u64; 256])
+fn rule_rest(rules: &[u16], n: usize, m: usize, order: &[u8; 128], ruled: &mut Relation)
     requires { (n ≤ 128) × (m ≤ 64) × (Standing m rules.now order.now n) × (Ruled (n / 8 * 8) m rules.now order.now ruled.old) }
     ensures { Ruled n m rules.now order.now ruled.new }
 {
@@ -72,8 +72,9 @@ fn rule_rest(rules: &[u16], n: usize, m: usize, order: &[u8; 128], ruled: &mut [
     }
 }
 
-// Row j of ruled, which was blank, gets the places of the rule kinds of mark j, for each mark.
-pub fn rule_rows(rules: &[u16], n: usize, m: usize, order: &[u8; 128], ruled: &mut [u64; 256])
+/// Row j of ruled, which was blank, gets the places of the rule kinds of mark j, for each mark. It is lent: given back it would be
+/// copied, which takes a small book a few in 100 longer.
+pub fn rule_rows(rules: &[u16], n: usize, m: usize, order: &[u8; 128], ruled: &mut Relation)
     requires { (n ≤ 128) × (m ≤ 64) × (length rules.now ≡ n * m) × ((i : ℕ) → i < n → get_or order.now i 0 < n) × (Blank ruled.old) }
     ensures { Ruled n m rules.now order.now ruled.new }
 {

@@ -1,5 +1,5 @@
 -- Saving a book's tables, step by step.
---     pasted_copy                           a table pasted at its place is the copy under the name
+--     placed_at, copied                     a table with another copied to a place; at its place this is the copy under the name
 --     BothFit, both_fit                     the lengths that refusal 1 has tested
 --     saving_done                           all four, and the flag
 --     name_refused, save_done               refusal 14, and a save that is made
@@ -10,9 +10,8 @@ use mathlib.Core.List.{List, ◌++◌}
 use Prim.Native.Nat.{ℕ, ◌+◌, ◌*◌}
 use native.Mathlib.Omega.{arith}
 use lib.ListN.{length, set, take, drop}
-use lib.Seq.{paste, take-length}
 use Rattle.stores.specs.declared.Name.{Name}
-use Rattle.stores.specs.declared.CheckedName.{CheckedName}
+use Rattle.std.specs.Prelude.{Some, None}
 use Rattle.stores.specs.Name.{name_below}
 use Rattle.stores.specs.Store.{Store, lent_store, stored, with_copy, saving, save}
 use Rattle.stores.proofs.NameLaws.{named, unnamed}
@@ -24,10 +23,11 @@ use Rattle.tables.proofs.ShapeLaws.{and_iff, sized_facts, shape_sized}
 
 -- ---- one table
 
-pub pasted_copy : (size number : ℕ) (copy copies : List ℕ) → length copy ≡ size → paste copies (number * size) copy (length copy) ≡ with_copy size number copy copies
-pasted_copy size number copy copies is =
-    ap (λ (l : List ℕ). take (number * size) copies ++ l ++ drop (number * size + length copy) copies) (take-length copy)
-    ∙ ap (λ (k : ℕ). take (number * size) copies ++ copy ++ drop (number * size + k) copies) is
+abbrev pub placed_at : ℕ → (copy copies : List ℕ) → List ℕ
+placed_at at copy copies = take at copies ++ copy ++ drop (at + length copy) copies
+
+pub copied : (size number : ℕ) (copy copies : List ℕ) → length copy ≡ size → placed_at (number * size) copy copies ≡ with_copy size number copy copies
+copied size number copy copies is = ap (λ (k : ℕ). take (number * size) copies ++ copy ++ drop (number * size + k) copies) is
 
 -- ---- all of them
 
@@ -46,27 +46,27 @@ both_fit n m t s fits =
 
 module _ (n m : ℕ) (t : Tables) (s : Store) (number : ℕ) where
   pub saving_done : {flags links rules entries disputes : List ℕ} → BothFit n m t s
-      → flags ≡ set s.flags number 1 → links ≡ paste s.links (number * (n * n)) t.links (length t.links)
-      → rules ≡ paste s.rules (number * (n * m)) t.rules (length t.rules) → entries ≡ paste s.entries (number * (n * m)) t.entries (length t.entries)
-      → disputes ≡ paste s.disputes (number * m) t.disputes (length t.disputes)
+      → flags ≡ set s.flags number 1 → links ≡ placed_at (number * (n * n)) t.links s.links
+      → rules ≡ placed_at (number * (n * m)) t.rules s.rules → entries ≡ placed_at (number * (n * m)) t.entries s.entries
+      → disputes ≡ placed_at (number * m) t.disputes s.disputes
       → lent_store flags links rules entries disputes ≡ saving n m t s number
   unfolding saving
   saving_done fit f l r e d = rw (
     f,
-    l ∙ pasted_copy (n * n) number t.links s.links fit.links_size,
-    r ∙ pasted_copy (n * m) number t.rules s.rules fit.sizes.rules_size,
-    e ∙ pasted_copy (n * m) number t.entries s.entries fit.sizes.entries_size,
-    d ∙ pasted_copy m number t.disputes s.disputes fit.disputes_size,
+    l ∙ copied (n * n) number t.links s.links fit.links_size,
+    r ∙ copied (n * m) number t.rules s.rules fit.sizes.rules_size,
+    e ∙ copied (n * m) number t.entries s.entries fit.sizes.entries_size,
+    d ∙ copied m number t.disputes s.disputes fit.disputes_size,
   ) refl
 
   -- no such name, and a save that is made
   module _ (fits : (shaped n m t && stored n m s) ≡ true) where
-    pub name_refused : name_below number ≡ CheckedName.Outside → leaves (refused 14) s ≡ save n m t s number
+    pub name_refused : name_below number ≡ None → leaves (refused 14) s ≡ save n m t s number
     name_refused is =
         let (book, store) = (and_iff (shaped n m t) (stored n m s)).0 fits in
         sym (save_name n m t s book store number (unnamed number is))
 
-    pub save_done : {k : Name} {s' : Store} → name_below number ≡ CheckedName.Name k → s' ≡ saving n m t s k.0 → leaves (given tt) s' ≡ save n m t s number
+    pub save_done : {k : Name} {s' : Store} → name_below number ≡ Some k → s' ≡ saving n m t s k.0 → leaves (given tt) s' ≡ save n m t s number
     save_done {k} is made =
         let (book, store) = (and_iff (shaped n m t) (stored n m s)).0 fits in
         let (the_name, low) = named number is in

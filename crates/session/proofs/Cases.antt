@@ -5,16 +5,16 @@ use mathlib.Core.Path.{◌≡◌, refl}
 use mathlib.Core.List.{List, [], ◌∷◌}
 use Prim.Native.Nat.{ℕ}
 use Prim.Native.String.{String}
-use Rattle.patterns.specs.Bytes.{bytes}
+use Rattle.forms.specs.Bytes.{bytes}
 use Rattle.inheritance.specs.Above.{above, through, count}
 use Rattle.inheritance.specs.Lookup.{lookup, within, inherit, left, least, seen, some_below, passing, meet, join}
 use Rattle.tables.specs.Lists.{edit_outcome}
 use Rattle.tables.specs.Books.{answer_to}
 use Rattle.tables.specs.Tables.{sized, sound, sound_over, bytes_right, tallied, well_linked, all_below, differing, entries_of, entry_at, grid, listed, disputes_at, disputes_of}
 use Rattle.tables.specs.Calls.{open_book, add_rule, add_link, take_link, find, accepted, check, finding_of}
-use Rattle.patterns.specs.Decimal.{number_at, is_digit, further, digits, last_digits, width}
+use Rattle.forms.specs.Decimal.{number_at, is_digit, further, digits, last_digits, width}
 use Rattle.forms.specs.Forms.{form_of, first_fit, shapes}
-use Rattle.patterns.specs.Pattern.{fits, filled}
+use Rattle.forms.specs.Pattern.{fits, filled}
 use Rattle.session.specs.Line.{line_of, turn_of, carries}
 use Rattle.session.specs.Session.{start, answers}
 

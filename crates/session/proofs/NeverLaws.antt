@@ -10,9 +10,9 @@ use native.Mathlib.Decide.{dec_lt}
 use native.Mathlib.Omega.{arith}
 use borrow.Author.Tests.{le-ltb, ltb-true}
 use lib.ListN.{length, get_or, drop, length-append}
-use Rattle.patterns.specs.Decimal.{number, digits, width, is_digit, number_at}
-use Rattle.patterns.specs.Pattern.{filled}
-use Rattle.patterns.proofs.DecimalLaws.{length_digits, number_digits}
+use Rattle.forms.specs.Decimal.{number, digits, width, is_digit, number_at}
+use Rattle.forms.specs.Pattern.{filled}
+use Rattle.forms.proofs.DecimalLaws.{length_digits, number_digits}
 use Rattle.tables.specs.Reply.{Reply, refused, given, Finding}
 use Rattle.tables.specs.Tables.{shaped, sound}
 use Rattle.tables.specs.Calls as calls
@@ -26,7 +26,7 @@ use Rattle.tables.proofs.NeverLaws as tables
 use Rattle.tables.proofs.ShapeLaws.{sized_facts}
 use Rattle.answers.specs.Answers.{printed_refused, printed_answer}
 use Rattle.forms.specs.Forms.{Form, open_book, add_rule, take_rule, add_link, take_link, find, bad, form_of}
-use Rattle.requests.specs.Requests.{program, asks}
+use Rattle.forms.specs.Requests.{program, asks}
 use Rattle.session.specs.Line.{Book, opened_book, carries, turn_of, line_of}
 use Rattle.session.specs.Session.{start, answers}
 

@@ -17,7 +17,7 @@ use Rattle.tables.proofs.ListLaws.{run_keeps}
 use Rattle.tables.proofs.CallLaws.{check_holds, find_keeps}
 use Rattle.tables.proofs.CallerLaws.{others_kept}
 use Rattle.forms.specs.Forms.{Form, open_book, add_rule, take_rule, add_link, take_link, find, bad, form_of}
-use Rattle.requests.specs.Requests.{program}
+use Rattle.forms.specs.Requests.{program}
 use Rattle.session.specs.Line.{Book, opened_book, carries, turn_of, line_of}
 use Rattle.session.specs.Session.{start, book_after}
 

@@ -12,7 +12,7 @@ use Rattle.tables.specs.Calls.{Outcome, zeros}
 use Rattle.tables.specs.Books.{Call, Result, outcome}
 use Rattle.answers.specs.Answers.{printed_refused, printed_opened, printed_answer}
 use Rattle.forms.specs.Forms.{Form, form_of}
-use Rattle.requests.specs.Requests.{call_for, fresh}
+use Rattle.forms.specs.Requests.{call_for, fresh}
 
 pub record Book : Type 0 where
   pub n : ℕ

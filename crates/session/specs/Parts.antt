@@ -3,14 +3,15 @@
 --     parts        their leading parts for a book of n kinds and m marks; book_in: the book that stands in them
 --     put_in       a book's tables put at the front of theirs; what lies behind stays
 --     size_after   the size of the book after an answer
+--     Carried      what a call leaves in the tables
+--     tables_on, book_on    the tables of a desk, and the book that stands in them; SameDesk: the tables are lent to both
 --     Answered     what a line leaves in the program, by the turn that it is. Line after line, `book` is what the next line's turn is done to
 -- Assumes nothing.
 use Rattle.std.specs.Prelude.{◌≡◌, List, ◌++◌, ℕ, ◌*◌, length, take, drop}
-use Rattle.patterns.specs.Pattern.{Printed}
-use Rattle.tables.specs.Books.{Call, Answer, opening, editing, finding, pairing, inspecting, listing}
+use Rattle.tables.specs.Books.{Call, Answer, opening, editing, finding, pairing, inspecting, listing, gives, outcome}
 use Rattle.tables.specs.Reply.{Reply, refused, given}
 use Rattle.tables.specs.Tables.{Tables, lent, LengthsOf}
-use Rattle.session.specs.declared.Turned.{Turned}
+use Rattle.session.specs.declared.Desk.{Desk}
 use Rattle.session.specs.Line.{Book, Turn}
 
 abbrev pub Room : Tables → Type 0
@@ -31,25 +32,40 @@ put_in part whole =
     lent (front part.links whole.links) (front part.rules whole.rules) (front part.entries whole.entries) part.tally
     (front part.disputes whole.disputes)
 
-abbrev pub of_size : (n m length : ℕ) → Turned
-of_size n m length = record { n = n; m = m; length = length }
-
 -- an accepted open has its own size taken over
-abbrev pub size_after_open : (n m : ℕ) → Call → Reply (Unit {0}) → ℕ → Turned
-size_after_open n m call (given _) length = of_size call.n call.m length
-size_after_open n m call (refused number) length = of_size n m length
+abbrev pub size_after_open : (n m : ℕ) → Call → Reply (Unit {0}) → ℕ × ℕ
+size_after_open n m call (given _) = (call.n, call.m)
+size_after_open n m call (refused number) = (n, m)
 
-abbrev pub size_after : (n m : ℕ) → Call → Answer → ℕ → Turned
-size_after n m call (opening reply) length = size_after_open n m call reply length
-size_after n m call (editing reply) length = of_size n m length
-size_after n m call (finding reply) length = of_size n m length
-size_after n m call (pairing reply) length = of_size n m length
-size_after n m call (inspecting reply) length = of_size n m length
-size_after n m call (listing reply) length = of_size n m length
+abbrev pub size_after : (n m : ℕ) → Call → Answer → ℕ × ℕ
+size_after n m call (opening reply) = size_after_open n m call reply
+size_after n m call (editing reply) = (n, m)
+size_after n m call (finding reply) = (n, m)
+size_after n m call (pairing reply) = (n, m)
+size_after n m call (inspecting reply) = (n, m)
+size_after n m call (listing reply) = (n, m)
 
--- `turn` was done to the book: the book after it stands in the leading parts of the tables, what lies behind stays, and its answer stands at the
--- front of `out`
-pub record Answered (turn : Book → Turn) (n m : ℕ) (before after : Tables) (out : List ℕ) (r : Turned) (out_after : List ℕ) : Type 0 where
-  pub book : book_in r.n r.m after ≡ (turn (book_in n m before)).book
-  pub tables : after ≡ put_in (turn (book_in n m before)).book.tables before
-  pub printed : Printed (turn (book_in n m before)).printed out r.length out_after
+-- a call was carried out on the leading parts of the tables, which are those of the book that it is put to, and what lies behind stays
+pub record Carried (call : Call) (before : Tables) (answer : Answer) (after : Tables) : Type 0 where
+  pub done : gives answer (parts call.n call.m after) ≡ outcome call (parts call.n call.m before)
+  pub tables : after ≡ put_in (parts call.n call.m after) before
+
+abbrev pub tables_on : Desk → Tables
+tables_on d = lent d.links.now d.rules.now d.entries.now d.tally.now d.disputes.now
+
+abbrev pub book_on : Desk → Book
+book_on d = book_in d.n d.m (tables_on d)
+
+-- a desk with the same tables
+pub record SameDesk (old new : Desk) : Type 0 where
+  pub links : new.links.ghost_name ≡ old.links.ghost_name
+  pub rules : new.rules.ghost_name ≡ old.rules.ghost_name
+  pub entries : new.entries.ghost_name ≡ old.entries.ghost_name
+  pub tally : new.tally.ghost_name ≡ old.tally.ghost_name
+  pub disputes : new.disputes.ghost_name ≡ old.disputes.ghost_name
+
+-- `turn` was done to the book: the book after it stands in the leading parts of the tables, what lies behind stays, and its answer was printed
+pub record Answered (turn : Book → Turn) (before after : Desk) (text : List ℕ) : Type 0 where
+  pub book : book_on after ≡ (turn (book_on before)).book
+  pub tables : tables_on after ≡ put_in (turn (book_on before)).book.tables (tables_on before)
+  pub printed : text ≡ (turn (book_on before)).printed

@@ -1,110 +1,148 @@
-// One line of the text program: its form is made a call, the call is carried out on the leading parts of the program's tables, and the answer is printed.
+// One line of the text program: the call that it asks for is carried out on the leading parts of the program's tables, and the answer is printed.
 #![tactic(auto)]
 
-ghost use Rattle.std.specs.Prelude.{◌≡◌, ◌*◌, min};
-ghost use Rattle.tables.specs.Books.{call_of, answered};
+ghost use Rattle.std.specs.Prelude.{◌≡◌, replicate};
+ghost use Rattle.tables.specs.Caller.{callers};
+ghost use Rattle.tables.specs.Books.{call_of, answered, gives, outcome};
 ghost use Rattle.tables.specs.Tables.{lent};
-ghost use Rattle.requests.specs.Requests.{OfBook};
+ghost use Rattle.forms.specs.Requests.{OfBook};
 ghost use Rattle.session.specs.Line.{carries, line_of};
-ghost use Rattle.session.specs.Parts.{Room, size_after, Answered};
+ghost use Rattle.session.specs.Session.{start};
+ghost use Rattle.session.specs.Parts.{Room, book_on, size_after, SameDesk, Carried, Answered};
 
-use buffers::least;
-use requests::{Wanted, call_for};
-use tables::{Answer, Call, Opened, Refusal, TALLIES};
+use answers::{print_answer, print_refused};
+use arrayvec::ArrayString;
+use books::Book;
+use tables::{Answer, Call, Refusal, TALLIES};
 
-// The size of the book after a line, and how many bytes its answer has.
-#[derive(Clone, Copy)]
-pub struct Turned {
+/// The program's tables, which have places for 128 kinds and 64 marks, and the size of the book that stands in their leading parts. Before an
+/// accepted open, n and m are 0.
+#[derive(Drop)]
+pub struct Desk<'a> {
     pub n: u16,
     pub m: u16,
-    pub length: usize,
+    pub links: &'a mut [u8; 16384],
+    pub rules: &'a mut [u16; 8192],
+    pub entries: &'a mut [u16; 8192],
+    pub tally: &'a mut [u32; TALLIES],
+    pub disputes: &'a mut [u16; 64],
 }
 
-// How many places of a table are lent, where a book has a × b of them.
-fn leading(a: u16, b: u16, whole: usize) -> usize
-    ensures { result ≡ min (a * b) whole }
-{
-    least((a as usize) * (b as usize), whole)
-}
-
-// The size of the book after a call, by its answer: an accepted open has the size that it names taken over.
-fn size_after(answer: Answer, call: Call, n: u16, m: u16, length: usize) -> Turned
-    ensures { result ≡ size_after n m (call_of call) (answered answer) length }
-{
-    let kept = Turned { n, m, length };
-    match answer {
-        Answer::Opened(reply) => match reply {
-            Opened::Done => Turned {
-                n: call.n,
-                m: call.m,
-                length,
-            },
-            Opened::Refused(_) => kept,
-        },
-        Answer::Edited(_) => kept,
-        Answer::Found(_) => kept,
-        Answer::Paired(_) => kept,
-        Answer::Inspected(_) => kept,
+impl<'a> Desk<'a> {
+    /// The desk before the first line, on tables where no edit is counted yet.
+    pub fn new(
+        links: &'a mut [u8; 16384],
+        rules: &'a mut [u16; 8192],
+        entries: &'a mut [u16; 8192],
+        tally: &'a mut [u32; TALLIES],
+        disputes: &'a mut [u16; 64],
+    ) -> Desk<'a>
+        ensures { tally.old ≡ replicate callers 0 → book_on result ≡ start }
+    {
+        Desk {
+            n: 0,
+            m: 0,
+            links,
+            rules,
+            entries,
+            tally,
+            disputes,
+        }
     }
 }
 
-// Carries a call out on the leading parts of the tables, and prints its answer.
-fn carry(
+// The size of the book after a call, by its answer: an accepted open has the size that it names taken over.
+fn size_after(answer: Answer, call: Call, n: u16, m: u16) -> (u16, u16)
+    ensures { result ≡ size_after n m (call_of call) (answered answer) }
+{
+    match answer {
+        Answer::Opened(Ok(())) => (call.n, call.m),
+        Answer::Opened(Err(_)) => (n, m),
+        Answer::Edited(_) => (n, m),
+        Answer::Found(_) => (n, m),
+        Answer::Paired(_) => (n, m),
+        Answer::Inspected(_) => (n, m),
+    }
+}
+
+// Carries a call out on a book whose tables are lent apart.
+fn carry_lent(
     call: Call,
-    n: u16,
-    m: u16,
     links: &mut [u8],
     rules: &mut [u16],
     entries: &mut [u16],
     tally: &mut [u32],
     disputes: &mut [u16],
-    out: &mut [u8; 64],
-) -> Turned
-    requires room { Room (lent links.old rules.old entries.old tally.old disputes.old) }
-    requires of_book { OfBook n m (call_of call) }
-    ensures { Answered (λ b. carries b (call_of call)) n m
-        (lent links.old rules.old entries.old tally.old disputes.old)
-        (lent links.new rules.new entries.new tally.new disputes.new)
-        out.old result out.new }
+) -> Answer
+    ensures { gives (answered result) (lent links.new rules.new entries.new tally.new disputes.new)
+        ≡ outcome (call_of call) (lent links.old rules.old entries.old tally.old disputes.old) }
 {
-    let a = leading(call.n, call.n, links.len());
-    let b = leading(call.n, call.m, rules.len());
-    let d = least(call.m as usize, disputes.len());
-    let answer = calls::carry_out(
+    let mut book = Book {
+        n: call.n,
+        m: call.m,
+        links,
+        rules,
+        entries,
+        tally,
+        disputes,
+    };
+    calls::carry_out(&mut book, call.request)
+}
+
+// Carries a call out on the leading parts of the tables.
+fn carry_out(
+    call: Call,
+    links: &mut [u8; 16384],
+    rules: &mut [u16; 8192],
+    entries: &mut [u16; 8192],
+    tally: &mut [u32; TALLIES],
+    disputes: &mut [u16; 64],
+) -> Answer
+    ensures room { Room (lent links.old rules.old entries.old tally.old disputes.old) }
+    ensures carried { Carried (call_of call)
+        (lent links.old rules.old entries.old tally.old disputes.old) (answered result)
+        (lent links.new rules.new entries.new tally.new disputes.new) }
+{
+    let n = usize::from(call.n);
+    let m = usize::from(call.m);
+    let a = (n * n).min(16384);
+    let b = (n * m).min(8192);
+    let d = m.min(64);
+    carry_lent(
         call,
         &mut links[..a],
         &mut rules[..b],
         &mut entries[..b],
         tally,
         &mut disputes[..d],
-    );
-    let length = answers::print_answer(answer, call.n, call.m, out);
-    size_after(answer, call, n, m, length)
+    )
 }
 
-// One line, which comes without its line feed. The book of n kinds and m marks stands in the leading parts of the tables; before
-// an accepted open, n and m are 0.
-pub fn line(
-    input: &[u8],
-    n: u16,
-    m: u16,
-    links: &mut [u8; 16384],
-    rules: &mut [u16; 8192],
-    entries: &mut [u16; 8192],
-    tally: &mut [u32; TALLIES],
-    disputes: &mut [u16; 64],
-    out: &mut [u8; 64],
-) -> Turned
-    ensures { Answered (λ b. line_of b input.now) n m
-        (lent links.old rules.old entries.old tally.old disputes.old)
-        (lent links.new rules.new entries.new tally.new disputes.new)
-        out.old result out.new }
+// Carries a call out on the book, and prints its answer.
+fn carry(desk: &mut Desk, call: Call, text: &mut ArrayString<64>)
+    requires { OfBook desk.old.n desk.old.m (call_of call) }
+    ensures same { SameDesk desk.old desk.new }
+    ensures answered { Answered (λ b. carries b (call_of call)) desk.old desk.new text.new.bytes }
 {
-    match call_for(forms::read(input), n, m) {
-        Wanted::Call(call) => carry(call, n, m, links, rules, entries, tally, disputes, out),
-        Wanted::Bad => {
-            let length = answers::print_refused(Refusal::BadForm, out);
-            Turned { n, m, length }
-        }
+    let links = &mut *desk.links;
+    let rules = &mut *desk.rules;
+    let entries = &mut *desk.entries;
+    let tally = &mut *desk.tally;
+    let disputes = &mut *desk.disputes;
+    let answer = carry_out(call, links, rules, entries, tally, disputes);
+    let (n, m) = size_after(answer, call, desk.n, desk.m);
+    desk.n = n;
+    desk.m = m;
+    print_answer(answer, call.n, call.m, text);
+}
+
+/// One line, which comes without its line feed: what it asks for is done to the book, and its answer takes the text's place.
+pub fn line(desk: &mut Desk, input: &[u8], text: &mut ArrayString<64>)
+    ensures same { SameDesk desk.old desk.new }
+    ensures answered { Answered (λ b. line_of b input.now) desk.old desk.new text.new.bytes }
+{
+    match forms::asked(input, desk.n, desk.m) {
+        Some(call) => carry(desk, call, text),
+        None => print_refused(Refusal::BadForm, text),
     }
 }

@@ -16,9 +16,10 @@ use Rattle.inheritance.specs.Above.{Acyclic}
 use Rattle.inheritance.specs.Lookup.{lookup, Below}
 use Rattle.inheritance.proofs.AboveLaws.{SameBut}
 use Rattle.inheritance.proofs.TouchLaws.{below_upto, rule_keeps, link_keeps}
-use Rattle.tables.specs.Entry.{entry_of}
+use Rattle.inheritance.specs.Entry.{entry_of}
 use Rattle.tables.specs.Tables.{own_of, entry_at, entries_of, differing}
 use Rattle.tables.proofs.SoundLaws.{Looked, entries_looked, looked_entries}
+use Rattle.relation.specs.declared.KindSet.{KindSet}
 use Rattle.propagation.specs.Spread.{Visited}
 use Rattle.settling.specs.Settled.{Awaiting, Settled}
 use Rattle.settling.proofs.Order.{settled_looked}
@@ -28,7 +29,7 @@ abbrev pub Accepted : (n m : ℕ) (up : ℕ → ℕ → Bool) (rules old new : L
 Accepted n m up rules old new count = (new ≡ entries_of n m up rules) × (count ≡ differing old (entries_of n m up rules))
 
 -- the kinds that are not visited keep their lookups
-awaiting : (n m : ℕ) (up up' : ℕ → ℕ → Bool) (rules rules' entries visited : List ℕ) {lo hi : ℕ} → hi ≤ m
+awaiting : (n m : ℕ) (up up' : ℕ → ℕ → Bool) (rules rules' entries : List ℕ) (visited : KindSet) {lo hi : ℕ} → hi ≤ m
     → ((c j : ℕ) → c < n → lo ≤ j → j < hi → (Visited visited c → ⊥) → lookup n up (own_of m rules j) c ≡ lookup n up' (own_of m rules' j) c)
     → Looked n m up rules entries → Awaiting n m lo hi up' rules' visited entries
 unfolding entry_at
@@ -52,7 +53,7 @@ module _ (n m : ℕ) (up : ℕ → ℕ → Bool) (rules entries : List ℕ) (siz
     abbrev rules' : List ℕ
     rules' = set rules (e * m + mark) handling
 
-    pub rule_awaiting : (visited : List ℕ) → ((k : ℕ) → k < n → Below n up (own_of m rules' mark) e k → Visited visited k)
+    pub rule_awaiting : (visited : KindSet) → ((k : ℕ) → k < n → Below n up (own_of m rules' mark) e k → Visited visited k)
         → Awaiting n m mark (mark + 1) up rules' visited entries
     rule_awaiting visited reached =
         awaiting n m up up rules rules' entries visited (omega arith)
@@ -72,7 +73,7 @@ module _ (n m : ℕ) (up : ℕ → ℕ → Bool) (rules entries : List ℕ) (siz
             (fun_ext (λ d. own_kept m rules e mark handling mark-in j d hj (inr (λ same. ⊎_elim (λ less. omega arith) (λ more. omega arith) out))))
 
   module _ (up' : ℕ → ℕ → Bool) (e q : ℕ) (same_but : SameBut n up' up e q) (acyclic' : Acyclic n up') where
-    pub link_awaiting : (visited : List ℕ) → ((k : ℕ) → k < n → Below n up' (λ _. false) e k → Visited visited k)
+    pub link_awaiting : (visited : KindSet) → ((k : ℕ) → k < n → Below n up' (λ _. false) e k → Visited visited k)
         → Awaiting n m 0 m up' rules visited entries
     link_awaiting visited reached =
         awaiting n m up up' rules rules entries visited (omega arith)

@@ -17,6 +17,8 @@ use lib.ListN.{length, get_or}
 use Rattle.inheritance.specs.Above.{above}
 use Rattle.inheritance.proofs.AboveLaws.{link_above}
 use Rattle.arranging.specs.Arranged.{Arranged}
+use Rattle.relation.specs.declared.KindSet.{KindSet}
+use Rattle.relation.specs.declared.Relation.{Relation}
 use Rattle.relation.specs.Bit.{bit}
 use Rattle.tables.specs.Step.{stepped}
 use Rattle.tables.specs.Tables.{entry_at, differing}
@@ -33,7 +35,7 @@ differing_le [] ys = zero-le
 differing_le (x ∷ xs) [] = zero-le
 differing_le (x ∷ xs) (y ∷ ys) = omega (arith, differ_le x y, differing_le xs ys)
 
-module _ (n m lo hi : ℕ) (rows rules visited order reach : List ℕ) (kinds : n ≤ 128) (a : Arranged n rows order reach) where
+module _ (n m lo hi : ℕ) (rows : Relation) (rules : List ℕ) (visited : KindSet) (order : List ℕ) (reach : Relation) (kinds : n ≤ 128) (a : Arranged n rows order reach) where
   abbrev up : ℕ → ℕ → Bool
   up = bit rows
 

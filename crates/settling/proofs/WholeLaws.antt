@@ -7,7 +7,8 @@ use mathlib.Core.Bool.{Bool, true}
 use mathlib.Core.List.{List}
 use Prim.Native.Nat.{ℕ, ◌*◌, ◌≤◌}
 use native.Mathlib.Omega.{arith}
-use lib.ListN.{length, replicate, get_or-replicate}
+use lib.ListN.{length}
+use Rattle.relation.proofs.Full.{all_of, holds_all}
 use Rattle.tables.specs.Tables.{Tables, shaped, Sized}
 use Rattle.tables.proofs.ShapeLaws.{sized_facts, shape_sized}
 use Rattle.settling.specs.Settled.{Awaiting}
@@ -23,6 +24,5 @@ settle_ready n m t is entries same same-marks =
       omega (arith, same-marks, s.disputes_length),
     )
 
--- k is not written as 128, so that `replicate k x` stays as it is
-pub all_visited : (k x m : ℕ) {n lo hi : ℕ} (up : ℕ → ℕ → Bool) (rules entries : List ℕ) → k ≡ 128 → x ≡ 1 → n ≤ 128 → Awaiting n m lo hi up rules (replicate k x) entries
-all_visited k x m up rules entries size is kinds c j hc a b fresh = absurd (fresh (get_or-replicate k c x 0 (omega arith) ∙ is))
+pub all_visited : (m : ℕ) {n lo hi : ℕ} (up : ℕ → ℕ → Bool) (rules entries : List ℕ) → n ≤ 128 → Awaiting n m lo hi up rules all_of entries
+all_visited m up rules entries kinds c j hc a b fresh = absurd (fresh (holds_all c (omega arith)))

@@ -15,16 +15,17 @@ ghost use Rattle.writing.specs.Written.{Written};
 ghost use Rattle.settling.specs.Settled.{Awaiting, Settled, AllSettled};
 
 use counting::count_disputes;
+use relation::{KindSet, Relation};
 use ruling::rule_rows;
 use stepping::{inherit_entry, inherit_row};
 use writing::{put_counted, write_row};
 
 // The entries of kind c are worked out and written. How many were others. A single mark needs no row.
 fn settle_kind(
-    rows: &[u64; 256],
+    rows: &Relation,
     order: &[u8; 128],
-    reach: &[u64; 256],
-    ruled: &[u64; 256],
+    reach: &Relation,
+    ruled: &Relation,
     n: usize,
     m: usize,
     lo: usize,
@@ -54,28 +55,28 @@ fn settle_kind(
 // are theirs already: the kinds are gone through from the last place to the first, so that those above a kind come before
 // it. The dispute counts are those of the entries, before and after. How many entries were others.
 pub fn settle(
-    rows: &[u64; 256],
+    rows: &Relation,
     order: &[u8; 128],
-    reach: &[u64; 256],
-    ruled: &[u64; 256],
+    reach: &Relation,
+    ruled: &Relation,
     n: usize,
     m: usize,
     lo: usize,
     hi: usize,
-    visited: &[u8; 128],
+    visited: KindSet,
     rules: &[u16],
     entries: &mut [u16],
     disputes: &mut [u16],
 ) -> u16
     requires sized_and_prepared { (Sized n m rules.now entries.old) × (Prepared n m rows.now rules.now order.now reach.now ruled.now) }
-    requires awaiting_and_counted { (MarkRange m lo hi) × (Awaiting n m lo hi (bit rows.now) rules.now visited.now entries.old) × (Counted m entries.old disputes.old) }
+    requires awaiting_and_counted { (MarkRange m lo hi) × (Awaiting n m lo hi (bit rows.now) rules.now visited entries.old) × (Counted m entries.old disputes.old) }
     ensures { (Settled n m lo hi (bit rows.now) rules.now entries.old entries.new result)
         × (Counted m entries.new disputes.new) }
 {
     let mut count = 0;
     for t in 0..n {
         let c = order[n - 1 - t] as usize;
-        if visited[c] == 1 {
+        if visited.contains(c) {
             count += settle_kind(
                 rows, order, reach, ruled, n, m, lo, hi, rules, c, entries, disputes,
             );
@@ -88,9 +89,9 @@ pub fn settle(
 // counted first, and every kind counts as visited. The rows have the links, the kinds stand in the order, and reach has the
 // places of the kinds at or above each. How many entries were others.
 pub fn settle_all(
-    rows: &[u64; 256],
+    rows: &Relation,
     order: &[u8; 128],
-    reach: &[u64; 256],
+    reach: &Relation,
     n: usize,
     m: usize,
     rules: &[u16],
@@ -101,10 +102,10 @@ pub fn settle_all(
     ensures { AllSettled n m (bit rows.now) rules.now entries.old entries.new disputes.new result }
 {
     count_disputes(n, m, entries, disputes);
-    let mut ruled = [0u64; 256];
+    let mut ruled = Relation::empty();
     rule_rows(rules, n, m, order, &mut ruled);
-    let visited = [1u8; 128];
+    let visited = KindSet::ALL;
     settle(
-        rows, order, reach, &ruled, n, m, 0, m, &visited, rules, entries, disputes,
+        rows, order, reach, &ruled, n, m, 0, m, visited, rules, entries, disputes,
     )
 }

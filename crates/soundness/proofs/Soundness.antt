@@ -14,19 +14,20 @@ use mathlib.Core.List.{List, ◌∷◌}
 use Prim.Native.Nat.{ℕ, zero, suc, ◌*◌, ◌<◌, ◌≤◌}
 use native.Mathlib.Omega.{arith}
 use borrow.Author.Tests.{lt-ltb, leb-true}
-use lib.Dec.{eqb}
-use lib.ListN.{length, get_or, take, replicate}
+use Rattle.std.proofs.Common.{IsTrue, ◌↔◌}
+use lib.ListN.{length, take, replicate}
 use Rattle.inheritance.proofs.Bools.{same_bool}
 use Rattle.arranging.specs.Arranged.{Arrangement}
+use Rattle.relation.specs.declared.Relation.{Relation}
 use Rattle.relation.specs.Bit.{bit}
 use Rattle.loading.specs.Loaded.{Loaded, Tested, link}
 use Rattle.tables.specs.Step.{right}
 use Rattle.deciding.proofs.DecidingLaws.{arranged_acyclic}
 use Rattle.soundness.specs.Examined.{LinksExamined}
 use Rattle.tables.specs.Tables.{lent, up_of, entries_of, all_below, byte_right, bytes_right, well_linked, links_right, count_right, disputes_of, sound_over, sound}
-use Rattle.tables.proofs.DisputeLaws.{disputes_at_mark}
+use Rattle.tables.proofs.DisputeLaws.{counts_mean, mean_counts}
 use Rattle.tables.proofs.SoundLaws.{free_means, means_free, free_agree, entries_of_agree, right_up, sound_by_steps}
-use Rattle.tables.proofs.TableLaws.{below_true, below_same}
+use Rattle.tables.proofs.TableLaws.{below_true}
 
 -- the bytes alone
 module _ (n : ℕ) (links : List ℕ) (size : length links ≡ n * n) where
@@ -63,14 +64,13 @@ part_replicate zero size x h = refl
 part_replicate (suc k) zero x h = absurd (omega arith)
 part_replicate (suc k) (suc size) x h = ap {B = List ℕ} (λ l. x ∷ l) (part_replicate k size x (omega arith))
 
--- the counts of the code are compared as `count_right` does
-pub counts_tests : (n m : ℕ) (entries disputes : List ℕ) {counts : List ℕ} → length disputes ≡ m → counts ≡ disputes_of n m entries
-    → all_below (λ j. eqb (get_or disputes j 0) (get_or counts j 0)) (length disputes) ≡ all_below (count_right n m entries disputes) m
-counts_tests n m entries disputes {counts = counts} size are =
-    ap (all_below (λ j. eqb (get_or disputes j 0) (get_or counts j 0))) size
-    ∙ below_same _ _ m (λ j h. ap (eqb (get_or disputes j 0)) (ap (λ (l : List ℕ). get_or l j 0) are ∙ disputes_at_mark n m entries j h))
+-- the counts are those that the code has counted exactly where `count_right` holds of each
+pub counts_tests : (n m : ℕ) (entries disputes : List ℕ) {counts : List ℕ} {same : Bool} → length disputes ≡ m → counts ≡ disputes_of n m entries
+    → IsTrue same ↔ (disputes ≡ counts) → same ≡ all_below (count_right n m entries disputes) m
+counts_tests n m entries disputes {same = same} size are is =
+    same_bool same _ (λ e. mean_counts n m entries disputes (is.0 e ∙ are)) (λ e. is.1 (counts_mean n m entries disputes size e ∙ sym are))
 
-module _ (n : ℕ) (links rows : List ℕ) (kinds : n ≤ 128) (loaded : Loaded n links rows) where
+module _ (n : ℕ) (links : List ℕ) (rows : Relation) (kinds : n ≤ 128) (loaded : Loaded n links rows) where
   pub rows_links : (c p : ℕ) → c < n → p < n → bit rows c p ≡ up_of n links c p
   unfolding link
   rows_links c p hc hp = loaded.bits c p (omega arith) ∙ rw (link, lt-ltb c n hc, lt-ltb p n hp) refl
@@ -78,7 +78,7 @@ module _ (n : ℕ) (links rows : List ℕ) (kinds : n ≤ 128) (loaded : Loaded 
   pub links_rows : (c p : ℕ) → c < n → p < n → up_of n links c p ≡ bit rows c p
   links_rows c p hc hp = sym (rows_links c p hc hp)
 
-  module _ (order reach : List ℕ) (found : Bool) (a : Arrangement n rows order reach found) where
+  module _ (order : List ℕ) (reach : Relation) (found : Bool) (a : Arrangement n rows order reach found) where
     free_tests : found ≡ well_linked n (bit rows)
     free_tests = same_bool _ _ (λ e. means_free n (bit rows) (a.free e)) (λ e. a.all (free_means n (bit rows) e))
 
@@ -94,7 +94,7 @@ module _ (n : ℕ) (links rows : List ℕ) (kinds : n ≤ 128) (loaded : Loaded 
       ∙ and_holds (bytes_right n links) (well_linked n (up_of n links)) _ _ e
       ∙ sym (sound_by_steps n m (lent links rules entries tally disputes) size (omega arith))
 
-pub examined_entries : {n : ℕ} {links rows order reach : List ℕ} {r : Bool} → n ≤ 128 → length links ≡ n * n → LinksExamined n links rows order reach r → r ≡ true
+pub examined_entries : {n : ℕ} {links : List ℕ} {rows : Relation} {order : List ℕ} {reach : Relation} {r : Bool} → n ≤ 128 → length links ≡ n * n → LinksExamined n links rows order reach r → r ≡ true
     → (m : ℕ) (rules : List ℕ) → entries_of n m (bit rows) rules ≡ entries_of n m (up_of n links) rules
 examined_entries {n} {links} {rows} kinds size x found m rules =
     let loaded = x.loaded (linked_bytes n links size (sym x.answer ∙ found)) in

@@ -12,15 +12,15 @@ ghost use Rattle.merging.specs.Merged.{MarkRange};
 
 use deciding::{decide_entry, decide_row};
 use merging::{merge, merge_parents, own, own_row};
-use relation::next;
+use relation::Relation;
 
 // The entries of kind c for the marks from lo to below hi, worked out from its own rules, its parents' entries and, where
 // these differ, the kinds left.
 pub fn inherit_row(
-    rows: &[u64; 256],
+    rows: &Relation,
     order: &[u8; 128],
-    reach: &[u64; 256],
-    ruled: &[u64; 256],
+    reach: &Relation,
+    ruled: &Relation,
     n: usize,
     m: usize,
     lo: usize,
@@ -42,10 +42,10 @@ pub fn inherit_row(
 
 // The entry of kind c for mark j alone, as `inherit_row` works out a row.
 pub fn inherit_entry(
-    rows: &[u64; 256],
+    rows: &Relation,
     order: &[u8; 128],
-    reach: &[u64; 256],
-    ruled: &[u64; 256],
+    reach: &Relation,
+    ruled: &Relation,
     n: usize,
     m: usize,
     rules: &[u16],
@@ -58,11 +58,10 @@ pub fn inherit_entry(
     ensures { result ≡ stepped n m (bit rows.now) rules.now entries.now c j }
 {
     let kind = c as u16;
+    let mut rest = rows.row(c);
     let mut e = 0u16;
-    let mut p = next(rows, c, 0);
-    while p < n {
+    while let Some(p) = rest.take_first(n) {
         e = merge(kind, e, entries[p * m + j]);
-        p = next(rows, c, p + 1);
     }
     let owned = own(kind, rules[c * m + j], e);
     decide_entry(order, reach, ruled, c, j, owned)

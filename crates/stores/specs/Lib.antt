@@ -1,3 +1,4 @@
+pub mod Lent
 pub mod Name
 pub mod Store
 pub mod StoreSteps

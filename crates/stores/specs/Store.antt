@@ -4,14 +4,12 @@
 --     copy_at, with_copy   the copy under a name in a table of copies, and the table with another copy there
 --     state_at, saving     the tables saved under a name, and the store where a book's tables are
 --     save, return_to      the two calls
---     saved                the number of each case of the code's answer to a save
 -- Assumes nothing.
 use Rattle.std.specs.Prelude.{Bool, ◌&&◌, not, List, ◌++◌, ℕ, ◌+◌, ◌*◌, eqb, ltb, length, get_or, take, drop, set}
 use Rattle.tables.specs.Caller.{callers}
-use Rattle.tables.specs.Reply.{Reply, refused, given, refusal_number}
+use Rattle.tables.specs.Reply.{given}
 use Rattle.tables.specs.Tables.{Tables, lent, shaped, sound, differing, tallied}
 use Rattle.tables.specs.Calls.{OutcomeOn, Outcome, leaves, check}
-use Rattle.stores.specs.declared.Saved.{Saved}
 use Rattle.stores.specs.Name.{names}
 
 -- place name of the flags holds 0 where nothing was ever saved under the name; in the other tables the copies stand in order of name
@@ -76,9 +74,3 @@ return_to n m t s caller name =
     (check 15 (not (eqb (get_or s.flags name 0) 0)) t
     (check 5 (sound n m state) t
     (leaves (given (differing t.entries state.entries)) state)))))
-
--- ---- as the code has it
-
-abbrev pub saved : Saved → Reply (Unit {0})
-saved Saved.Done = given tt
-saved (Saved.Refused why) = refused (refusal_number why)

@@ -2,12 +2,14 @@
 --     passed_line    a block up to its first line feed, and the rest
 --     passed_end     a block without a line feed
 --     Passing        what holds between two lines of a block
---     begins, answered, finished    its start, its step and its end
+--     begins, passed_by, answered, finished    its start, its steps and its end; room: an answer has room
 -- Assumes nothing.
 use mathlib.Core.Path.{◌≡◌, refl, sym, ap, ◌∙◌}
 use mathlib.Core.Bool.{false}
 use mathlib.Core.List.{List, [], ◌∷◌, ◌++◌, append_assoc, append-nil}
+use mathlib.Core.Logic.{⊎_elim}
 use Prim.Native.Nat.{ℕ, suc, ◌+◌, ◌*◌, ◌-◌, ◌≤◌, ◌<◌}
+use native.Mathlib.Nat.{eq-or-lt_of_le}
 use native.Mathlib.Numerals.{add-one}
 use native.Mathlib.Omega.{arith}
 use borrow.Author.Tests.{ne_eqb}
@@ -15,17 +17,16 @@ use lib.Dec.{eqb}
 use lib.ListN.{length, get_or, take, drop, length-append, length-take, length-drop, take-append-drop}
 use lib.Seq.{drop-cons, drop-drop, get_or-drop, get_or-take, take_all}
 use Rattle.tables.specs.Lists.{run}
-use Rattle.tables.specs.Tables.{Tables}
 use Rattle.session.specs.Line.{Book, line_of}
 use Rattle.session.specs.Session.{answers, written}
-use Rattle.replying.specs.declared.State.{State}
-use Rattle.buffers.specs.Buffers.{cut}
+use Rattle.session.specs.declared.Desk.{Desk}
+use Rattle.session.specs.Parts.{book_on, SameDesk}
+use Rattle.stream.specs.Buffers.{cut}
 use Rattle.stream.specs.Stream.{ended, begun, Passed, passed}
-use Rattle.buffers.specs.Buffers.{LineEnd, Put, Added}
-use Rattle.replying.specs.Replied.{held, Replied}
-use Rattle.stream.specs.Blocks.{Worked}
-use Rattle.buffers.proofs.BufferLaws.{put_none, put_more}
-use Rattle.replying.proofs.ShortLaws.{answer_short}
+use Rattle.stream.specs.Buffers.{Put}
+use Rattle.stream.specs.Blocks.{Replied, Worked}
+use Rattle.stream.proofs.BufferLaws.{put_none, put_more}
+use Rattle.stream.proofs.ShortLaws.{answer_short}
 use Rattle.stream.proofs.StreamLaws.{behind, turned, passed_feed, passed_byte}
 
 abbrev NoFeed : List ℕ → Type 0
@@ -51,77 +52,105 @@ passed_end b partial (x ∷ block) none =
     ∙ passed_end b (partial ++ (x ∷ [])) block (no_feed_rest x block none)
     ∙ rw (append_assoc partial (x ∷ []) block)
 
-module _ {block : List ℕ} {from end : ℕ} (l : LineEnd block from end) where
-  -- the bytes before the line's end have no line feed
+-- the same tables are lent to the desk before and after two steps
+pub same_on : {a b c : Desk} → SameDesk a b → SameDesk b c → SameDesk a c
+same_on p q =
+    record {
+      links = q.links ∙ p.links;
+      rules = q.rules ∙ p.rules;
+      entries = q.entries ∙ p.entries;
+      tally = q.tally ∙ p.tally;
+      disputes = q.disputes ∙ p.disputes;
+    }
+
+-- the bytes of a block from one place up to another have no line feed
+abbrev pub NoneBetween : (block : List ℕ) (from end : ℕ) → Type 0
+NoneBetween block from end = (k : ℕ) → from ≤ k → k < end → get_or block k 0 ≡ 10 → ⊥
+
+module _ (block : List ℕ) (from end : ℕ) (after : from ≤ end) (none : NoneBetween block from end) where
   none_before : NoFeed (take (end - from) (drop from block))
   none_before k h is =
       let inside : k < end - from = omega (arith, simp length-take at h) in
-      l.none (from + k) (omega arith) (omega arith) (sym (get_or-take (end - from) (drop from block) k 0 inside ∙ get_or-drop from block k 0) ∙ is)
+      none (from + k) (omega arith) (omega arith) (sym (get_or-take (end - from) (drop from block) k 0 inside ∙ get_or-drop from block k 0) ∙ is)
 
-  split : end < length block → drop from block ≡ take (end - from) (drop from block) ++ (10 ∷ drop (end + 1) block)
-  split more =
-      let to : from + (end - from) ≡ end = omega (arith, l.after) in
+  split : end < length block → get_or block end 0 ≡ 10 → drop from block ≡ take (end - from) (drop from block) ++ (10 ∷ drop (end + 1) block)
+  split more here =
+      let to : from + (end - from) ≡ end = omega arith in
       sym (take-append-drop (end - from) (drop from block))
       ∙ ap (λ (s : List ℕ). take (end - from) (drop from block) ++ s)
-      (drop-drop (end - from) from block ∙ rw (to, add-one end) (drop-cons block end 0 more ∙ ap (λ (x : ℕ). x ∷ drop (suc end) block) (l.here more)))
+      (drop-drop (end - from) from block ∙ rw (to, add-one end) (drop-cons block end 0 more ∙ ap (λ (x : ℕ). x ∷ drop (suc end) block) here))
 
-pub record Passing (block : List ℕ) (whole : Passed) (at : ℕ) (before : List ℕ) (s : State) (t : Tables) (carry out : List ℕ) (from end : ℕ) : Type 0 where
+pub record Passing (block : List ℕ) (whole : Passed) (at : ℕ) (before : List ℕ) (b : Book) (carry out : List ℕ) (waiting from end : ℕ) : Type 0 where
   pub bytes : List ℕ
-  pub ends : LineEnd block from end
-  pub inside : s.carried ≤ 65
-  pub left : s.waiting + 17 * (length block - from) ≤ length before
+  pub order : from ≤ end
+  pub none : NoneBetween block from end
+  pub left : waiting + 17 * (length block - from) ≤ length before
   pub kept : length out ≡ length before
-  pub put : Put bytes before at s.waiting out
-  pub same : behind bytes (passed (held s t) (take s.carried carry) (drop from block)) ≡ whole
+  pub put : Put bytes before at waiting out
+  pub same : behind bytes (passed b carry (drop from block)) ≡ whole
 
-pub begins : (block : List ℕ) (s : State) (t : Tables) (carry out : List ℕ) {end : ℕ} → LineEnd block 0 end → s.carried ≤ 65
-    → s.waiting + 17 * length block ≤ length out
-    → Passing block (passed (held s t) (take s.carried carry) block) s.waiting out s t carry out 0 end
-begins block s t carry out ends inside left =
+pub begins : (block : List ℕ) (b : Book) (carry out : List ℕ) (at : ℕ) → at + 17 * length block ≤ length out
+    → Passing block (passed b carry block) at out b carry out at 0 0
+begins block b carry out at left =
     record {
       bytes = [];
-      ends = ends;
-      inside = inside;
+      order = omega arith;
+      none = λ k low high is. omega arith;
       left = omega arith;
       kept = refl;
-      put = put_none out s.waiting;
+      put = put_none out at;
       same = refl;
     }
 
-module _ {block : List ℕ} {whole : Passed} {at : ℕ} {before : List ℕ} {s : State} {t : Tables} {carry out : List ℕ} {from end : ℕ} (p : Passing block whole at before s t carry out from end) where
-  abbrev line : List ℕ
-  line = take s.carried carry ++ take (end - from) (drop from block)
+module _ {block : List ℕ} {whole : Passed} {at : ℕ} {before : List ℕ} {b : Book} {carry out : List ℕ} {waiting from end : ℕ} (p : Passing block whole at before b carry out waiting from end) where
+  -- the byte at `end` is none
+  pub passed_by : (get_or block end 0 ≡ 10 → ⊥) → Passing block whole at before b carry out waiting from (end + 1)
+  passed_by other =
+      record {
+        bytes = p.bytes;
+        order = omega (arith, p.order);
+        none = λ k low high is. ⊎_elim (λ (e : k ≡ end). other (sym (ap (λ (i : ℕ). get_or block i 0) e) ∙ is)) (λ (less : k < end). p.none k low less is) (eq-or-lt_of_le {n = k} {m = end} (omega arith));
+        left = p.left;
+        kept = p.kept;
+        put = p.put;
+        same = p.same;
+      }
 
-  pub answered : end < length block → {r : State} {t' : Tables} {carry' out' : List ℕ} {end' : ℕ} → Replied (line_of (held s t) line) s.waiting out r t' out'
-      → LineEnd block (end + 1) end' → length out' ≡ length out → Passing block whole at before r t' carry' out' (end + 1) end'
-  answered more {r} {t'} {carry'} {out'} done ends kept =
-      let turn = line_of (held s t) line in
+  abbrev line : List ℕ
+  line = carry ++ take (end - from) (drop from block)
+
+  pub room : end < length block → waiting + 17 ≤ length out
+  room more = omega (arith, p.order, p.left, p.kept)
+
+  pub answered : end < length block → get_or block end 0 ≡ 10 → {desk : Desk} {end' : ℕ} {out' : List ℕ}
+      → Replied (line_of b line) waiting out desk end' out' → length out' ≡ length out
+      → Passing block whole at before (book_on desk) [] out' end' (end + 1) (end + 1)
+  answered more here {desk} {end'} {out'} done kept =
+      let turn = line_of b line in
       let reply = turn.printed ++ (10 ∷ []) in
-      let long : length reply ≤ 17 = simp length-append (omega (arith, answer_short (held s t) line)) in
+      let long : length reply ≤ 17 = simp length-append (omega (arith, answer_short b line)) in
       record {
         bytes = p.bytes ++ reply;
-        ends = ends;
-        inside = omega (arith, done.carried);
-        left = omega (arith, done.output.long, p.left, p.ends.after);
+        order = omega arith;
+        none = λ k low high is. omega arith;
+        left = omega (arith, done.output.long, p.left, p.order);
         kept = omega (arith, p.kept);
-        put = put_more p.put done.output (omega arith);
+        put = put_more p.put done.output (omega (arith, p.left));
         same =
-            rw (done.book, done.carried)
+            rw done.book
             (ap (λ (o : List ℕ). record { book = (passed turn.book [] (drop (end + 1) block)).book; carry = (passed turn.book [] (drop (end + 1) block)).carry; output = o }) (append_assoc p.bytes reply (passed turn.book [] (drop (end + 1) block)).output)
-            ∙ ap (behind p.bytes) (sym (ap (passed (held s t) (take s.carried carry)) (split p.ends more) ∙ passed_line (held s t) (take s.carried carry) (take (end - from) (drop from block)) (drop (end + 1) block) (none_before p.ends)))
+            ∙ ap (behind p.bytes) (sym (ap (passed b carry) (split block from end p.order p.none more here) ∙ passed_line b carry (take (end - from) (drop from block)) (drop (end + 1) block) (none_before block from end p.order p.none)))
             ∙ p.same);
       }
 
-  pub finished : (end < length block → ⊥) → {r : State} {carry' : List ℕ} → r.n ≡ s.n → r.m ≡ s.m → r.waiting ≡ s.waiting
-      → Added (take (length block - from) (drop from block)) carry s.carried r.carried carry' → Worked whole at before r t carry' out
-  finished over {r} n m waiting rest =
-      let to : end ≡ length block = omega (arith, p.ends.within) in
-      let all : take (length block - from) (drop from block) ≡ drop from block = take_all (length block - from) (drop from block) (simp length-drop (omega arith)) in
-      let none : NoFeed (drop from block) = rw (to, all) at (none_before p.ends) in
-      let is = sym p.same ∙ ap (behind p.bytes) (passed_end (held s t) (take s.carried carry) (drop from block) none) in
+  pub finished : length block ≤ end → {desk : Desk} {carry' : List ℕ} → book_on desk ≡ b → carry' ≡ cut (carry ++ take (length block - from) (drop from block))
+      → Worked whole at before desk carry' waiting out
+  finished over {desk} is rest =
+      let all : (k : ℕ) → length block ≤ k + from → take k (drop from block) ≡ drop from block = λ k far. take_all k (drop from block) (simp length-drop (omega arith)) in
+      let none : NoFeed (drop from block) = rw (all (end - from) (omega (arith, p.order))) at (none_before block from end p.order p.none) in
+      let done = sym p.same ∙ ap (behind p.bytes) (passed_end b carry (drop from block) none) in
       record {
-        book = rw (n, m) (sym (ap (λ (q : Passed). q.book) is));
-        carried = (rw all at rest.long) ∙ sym (ap (λ (q : Passed). length q.carry) is);
-        carry = (rw all at rest.whole) ∙ sym (ap (λ (q : Passed). q.carry) is);
-        output = rw (waiting, ap (λ (q : Passed). q.output) is, append-nil p.bytes) p.put;
+        book = is ∙ sym (ap (λ (q : Passed). q.book) done);
+        carry = rest ∙ ap (λ (s : List ℕ). cut (carry ++ s)) (all (length block - from) (omega arith)) ∙ sym (ap (λ (q : Passed). q.carry) done);
+        output = rw (ap (λ (q : Passed). q.output) done, append-nil p.bytes) p.put;
       }

@@ -5,30 +5,27 @@
 --     passed_feed, passed_byte    a block by its first byte
 --     closed_line, closed_none    the last line has a byte, or there is none
 -- Assumes nothing.
-use mathlib.Core.Path.{◌≡◌, refl, sym, ap, subst, ◌∙◌}
+use mathlib.Core.Path.{◌≡◌, refl, sym, ap, ◌∙◌}
 use mathlib.Core.Bool.{Bool, true, false}
 use mathlib.Core.List.{List, [], ◌∷◌, ◌++◌, append_assoc, flatten}
 use Prim.Native.Nat.{ℕ, zero, suc, ◌<◌}
 use native.Mathlib.Omega.{arith}
-use borrow.Author.Tests.{leb-true, leb-false}
+use borrow.Author.Tests.{leb-true, leb-false, eqb-true, eqb-false}
 use lib.Dec.{eqb, leb}
-use lib.ListN.{length, take, replicate, length-take}
+use lib.ListN.{length, take, length-take}
 use lib.Seq.{take_all, length-take-le}
 use Rattle.tables.specs.Lists.{run}
-use Rattle.tables.specs.Caller.{callers}
-use Rattle.tables.specs.Tables.{Tables, lent}
 use Rattle.forms.specs.Forms.{form_of}
 use Rattle.forms.proofs.FormLaws.{form_long}
 use Rattle.session.specs.Line.{Book, Turn, line_of, turn_of}
-use Rattle.session.specs.Parts.{book_in}
 use Rattle.session.specs.Session.{start, book_after, answers, lines_from, written, session}
 use Rattle.session.proofs.SessionLaws.{answers_apart, written_apart}
-use Rattle.replying.specs.declared.State.{State}
-use Rattle.replying.specs.Replied.{held, Replied}
-use Rattle.stream.specs.Blocks.{Closed, Fresh, Streaming, ends, works}
-use Rattle.buffers.specs.Buffers.{cut}
+use Rattle.session.specs.declared.Desk.{Desk}
+use Rattle.session.specs.Parts.{book_on}
+use Rattle.stream.specs.Blocks.{Replied, Closed, Fresh, Streaming, ends, works}
+use Rattle.stream.specs.Buffers.{cut}
 use Rattle.stream.specs.Stream.{ended, begun, last, Passed, passed, closed, streamed}
-use Rattle.buffers.proofs.BufferLaws.{put_none, put_front}
+use Rattle.stream.proofs.BufferLaws.{put_none, put_front}
 
 -- ---- Lines over 64 bytes
 
@@ -169,27 +166,26 @@ stream_is_session blocks = streams blocks start []
 
 -- ---- The functions' contracts
 
-pub closed_line : (b : Book) (line : List ℕ) {out : List ℕ} {r : State} {after : Tables} {out_after : List ℕ} → 0 < length line
-    → Replied (line_of b line) 0 out r after out_after → Closed (closed b line) out r.waiting after out_after
+pub closed_line : (b : Book) (line : List ℕ) {out : List ℕ} {after : Desk} {end : ℕ} {out_after : List ℕ} → false ≡ eqb (length line) 0
+    → Replied (line_of b line) 0 out after end out_after → Closed (closed b line) out after end out_after
 unfolding closed run answers written
-closed_line b [] some done = absurd (omega arith)
-closed_line b (x ∷ line) {after = after} some done =
-    record { book = subst (λ (book : Book). book_in book.n book.m after ≡ book) done.book refl; output = done.output }
+closed_line b [] some done = absurd (eqb-false 0 0 (sym some) refl)
+closed_line b (x ∷ line) some done = record { book = done.book; output = done.output }
 
-pub closed_none : (n m : ℕ) (t : Tables) (out : List ℕ) → Closed (closed (book_in n m t) []) out 0 t out
+pub closed_none : (desk : Desk) (carry out : List ℕ) → true ≡ eqb (length carry) 0 → Closed (closed (book_on desk) carry) out desk 0 out
 unfolding closed run answers written
-closed_none n m t out = record { book = refl; output = put_none out 0 }
+closed_none desk [] out none = record { book = refl; output = put_none out 0 }
+closed_none desk (x ∷ carry) out none = absurd (omega (arith, eqb-true (suc (length carry)) 0 (sym none)))
 
-streaming : {s : State} {t : Tables} {carry : List ℕ} {blocks : List (List ℕ)} {output : List ℕ} → Streaming s t carry blocks output
-    → output ≡ streamed (held s t) (take s.carried carry) blocks
+streaming : {desk : Desk} {carry : List ℕ} {blocks : List (List ℕ)} {output : List ℕ} → Streaming desk carry blocks output
+    → output ≡ streamed (book_on desk) carry blocks
 unfolding streamed
 streaming (ends done) = put_front done.output
-streaming (works {s = s} {t = t} {carry = carry} {block = block} done next) =
+streaming (works {desk = desk} {carry = carry} {block = block} done next) =
     rw (put_front done.output, ← done.book, ← done.carry)
-    (ap (λ (rest : List ℕ). (passed (held s t) (take s.carried carry) block).output ++ rest) (streaming next))
+    (ap (λ (rest : List ℕ). (passed (book_on desk) carry block).output ++ rest) (streaming next))
 
 -- from the first block on
-pub streaming_is_session : {s : State} {links rules entries disputes carry : List ℕ} {blocks : List (List ℕ)} {output : List ℕ} → Fresh s
-    → Streaming s (lent links rules entries (replicate callers 0) disputes) carry blocks output → output ≡ session (flatten blocks)
-streaming_is_session {s} {links} {rules} {entries} {disputes} {carry} {blocks} fresh all =
-    streaming all ∙ rw (fresh.book links rules entries disputes, fresh.carried) (stream_is_session blocks)
+pub streaming_is_session : {desk : Desk} {blocks : List (List ℕ)} {output : List ℕ} → Fresh desk
+    → Streaming desk [] blocks output → output ≡ session (flatten blocks)
+streaming_is_session {desk} {blocks} fresh all = streaming all ∙ rw fresh (stream_is_session blocks)

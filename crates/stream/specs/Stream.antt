@@ -5,7 +5,7 @@
 --     streamed        what is written for an input that comes in these blocks
 -- Assumes nothing.
 use Rattle.std.specs.Prelude.{true, false, List, [], ◌∷◌, ◌++◌, ℕ, eqb}
-use Rattle.buffers.specs.Buffers.{cut}
+use Rattle.stream.specs.Buffers.{cut}
 use Rattle.session.specs.Line.{Book}
 use Rattle.session.specs.Session.{book_after, answers, written}
 

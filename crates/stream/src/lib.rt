@@ -1,193 +1,105 @@
 // The stream of the text program: its input comes in blocks, which are cut anywhere, and every line that ends in a block is answered.
 #![tactic(auto)]
 
-ghost use Rattle.std.specs.Prelude.{◌++◌, ◌+◌, ◌*◌, ◌≤◌, length, take};
-ghost use Rattle.tables.specs.Tables.{lent};
+mod buffers;
+
+ghost use Rattle.std.specs.Prelude.{◌≡◌, [], ◌++◌, ◌+◌, ◌*◌, ◌≤◌, length, take};
 ghost use Rattle.session.specs.Line.{line_of};
-ghost use Rattle.replying.specs.Replied.{held, Replied};
+ghost use Rattle.session.specs.Parts.{book_on, SameDesk};
 ghost use Rattle.stream.specs.Stream.{passed, closed};
-ghost use Rattle.stream.specs.Blocks.{Worked, Closed, Fresh};
+ghost use Rattle.stream.specs.Blocks.{Replied, Worked, Closed};
 
-use buffers::{add, least, line_end};
-use replying::{State, answer};
-use tables::TALLIES;
+use arrayvec::{ArrayString, ArrayVec};
+use buffers::{add, put};
+use session::Desk;
 
-// The most bytes that are worked at a time, and the bytes of an output that has room for an answer to each of them: an answer with its
-// line feed takes at most 17.
+/// The most bytes that are worked at a time, and the bytes of an output that has room for an answer to each of them: an answer with its
+/// line feed takes at most 17.
 pub const BLOCK: usize = 32768;
 
+// An array, and no string that grows: the program has no heap.
 pub const OUTPUT: usize = 17 * BLOCK;
+
+// Carries out a line in the book, and has its answer, with a line feed, wait in the output behind those before it.
+fn answer(desk: &mut Desk, line: &[u8], out: &mut [u8], waiting: usize) -> usize
+    requires { waiting + 17 ≤ length out.old }
+    ensures same { SameDesk desk.old desk.new }
+    ensures replied { Replied (line_of (book_on desk.old) line.now) waiting out.old desk.new result out.new }
+{
+    let mut text = ArrayString::new();
+    session::line(desk, line, &mut text);
+    put(text.as_bytes(), out, waiting)
+}
 
 // Carries out a line by the part that ends it. Only a line whose start is carried is put together; any other lies whole in its block.
 fn finish(
+    desk: &mut Desk,
     part: &[u8],
-    state: State,
-    carry: &mut [u8; 65],
-    links: &mut [u8; 16384],
-    rules: &mut [u16; 8192],
-    entries: &mut [u16; 8192],
-    tally: &mut [u32; TALLIES],
-    disputes: &mut [u16; 64],
+    carry: &mut ArrayVec<u8, 65>,
     out: &mut [u8],
-) -> State
-    requires carried_bound { state.carried ≤ 65 }
-    requires room_for_answer { state.waiting + 17 ≤ length out.old }
-    ensures { Replied
-        (line_of (held state (lent links.old rules.old entries.old tally.old disputes.old))
-        (take state.carried carry.old ++ part.now))
-        state.waiting out.old result
-        (lent links.new rules.new entries.new tally.new disputes.new) out.new }
+    waiting: usize,
+) -> usize
+    requires { waiting + 17 ≤ length out.old }
+    ensures same { SameDesk desk.old desk.new }
+    ensures empty { carry.new.items ≡ [] }
+    ensures replied { Replied (line_of (book_on desk.old) (carry.old.items ++ part.now)) waiting out.old desk.new result out.new }
 {
-    if state.carried == 0 {
-        return answer(part, state, links, rules, entries, tally, disputes, out);
+    if carry.is_empty() {
+        return answer(desk, part, out, waiting);
     }
-    let end = add(part, carry, state.carried);
-    let whole: &[u8] = carry;
-    answer(
-        &whole[..end],
-        state,
-        links,
-        rules,
-        entries,
-        tally,
-        disputes,
-        out,
-    )
+    add(part, carry);
+    let behind = answer(desk, carry.as_slice(), out, waiting);
+    carry.clear();
+    behind
 }
 
 // Answers the lines that end in a block, behind what waits already, and carries the rest over.
 fn lines(
+    desk: &mut Desk,
     block: &[u8],
-    start: State,
-    carry: &mut [u8; 65],
-    links: &mut [u8; 16384],
-    rules: &mut [u16; 8192],
-    entries: &mut [u16; 8192],
-    tally: &mut [u32; TALLIES],
-    disputes: &mut [u16; 64],
+    carry: &mut ArrayVec<u8, 65>,
     out: &mut [u8],
-) -> State
-    requires carried_bound { start.carried ≤ 65 }
-    requires room_for_answers { start.waiting + 17 * length block.now ≤ length out.old }
-    ensures { Worked
-        (passed (held start (lent links.old rules.old entries.old tally.old disputes.old))
-        (take start.carried carry.old) block.now)
-        start.waiting out.old result
-        (lent links.new rules.new entries.new tally.new disputes.new) carry.new out.new }
+    start: usize,
+) -> usize
+    requires { start + 17 * length block.now ≤ length out.old }
+    ensures same { SameDesk desk.old desk.new }
+    ensures worked { Worked (passed (book_on desk.old) carry.old.items block.now) start out.old desk.new carry.new.items result out.new }
 {
-    let mut state = start;
+    let mut waiting = start;
     let mut from = 0;
-    let mut end = line_end(block, 0);
-    while end < block.len() {
-        state = finish(
-            &block[from..end],
-            state,
-            carry,
-            links,
-            rules,
-            entries,
-            tally,
-            disputes,
-            out,
-        );
-        from = end + 1;
-        end = line_end(block, from);
+    for end in 0..block.len() {
+        if block[end] == b'\n' {
+            waiting = finish(desk, &block[from..end], carry, out, waiting);
+            from = end + 1;
+        }
     }
-    state.carried = add(&block[from..], carry, state.carried);
-    state
+    add(&block[from..], carry);
+    waiting
 }
 
-// Works the first `count` bytes of a block: answers the lines that end there, and carries the rest over. The answers stand at the front of
-// the output: what waited there has been written.
+/// Works the first `count` bytes of a block: answers the lines that end there, and carries the rest over. The answers stand at the front of
+/// the output: what waited there has been written. How many bytes they have.
 pub fn work(
+    desk: &mut Desk,
     block: &[u8; BLOCK],
     count: usize,
-    state: State,
-    carry: &mut [u8; 65],
-    links: &mut [u8; 16384],
-    rules: &mut [u16; 8192],
-    entries: &mut [u16; 8192],
-    tally: &mut [u32; TALLIES],
-    disputes: &mut [u16; 64],
-    out: &mut [u8; OUTPUT],
-) -> State
-    ensures { Worked
-        (passed (held state (lent links.old rules.old entries.old tally.old disputes.old))
-        (take state.carried carry.old) (take count block.now))
-        0 out.old result
-        (lent links.new rules.new entries.new tally.new disputes.new) carry.new out.new }
-{
-    let whole: &[u8] = block;
-    let kept: &[u8] = carry;
-    let size = least(count, whole.len());
-    let begin = State {
-        n: state.n,
-        m: state.m,
-        carried: least(state.carried, kept.len()),
-        waiting: 0,
-    };
-    lines(
-        &whole[..size],
-        begin,
-        carry,
-        links,
-        rules,
-        entries,
-        tally,
-        disputes,
-        out,
-    )
-}
-
-// Answers the last line if it has a byte. The answer stands at the front of the output, and its length is returned.
-pub fn close(
-    state: State,
-    carry: &[u8; 65],
-    links: &mut [u8; 16384],
-    rules: &mut [u16; 8192],
-    entries: &mut [u16; 8192],
-    tally: &mut [u32; TALLIES],
-    disputes: &mut [u16; 64],
+    carry: &mut ArrayVec<u8, 65>,
     out: &mut [u8; OUTPUT],
 ) -> usize
-    ensures { Closed
-        (closed (held state (lent links.old rules.old entries.old tally.old disputes.old))
-        (take state.carried carry.now))
-        out.old result
-        (lent links.new rules.new entries.new tally.new disputes.new) out.new }
+    ensures same { SameDesk desk.old desk.new }
+    ensures worked { Worked (passed (book_on desk.old) carry.old.items (take count block.now)) 0 out.old desk.new carry.new.items result out.new }
 {
-    let whole: &[u8] = carry;
-    let carried = least(state.carried, whole.len());
-    if carried == 0 {
-        return 0;
-    }
-    let begin = State {
-        n: state.n,
-        m: state.m,
-        carried,
-        waiting: 0,
-    };
-    let last = answer(
-        &whole[..carried],
-        begin,
-        links,
-        rules,
-        entries,
-        tally,
-        disputes,
-        out,
-    );
-    last.waiting
+    let size = count.min(BLOCK);
+    lines(desk, &block[..size], carry, out, 0)
 }
 
-// The state before the first block.
-pub fn fresh() -> State
-    ensures { Fresh result }
+/// Answers the last line if it has a byte. The answer stands at the front of the output. How many bytes it has.
+pub fn close(desk: &mut Desk, carry: &ArrayVec<u8, 65>, out: &mut [u8; OUTPUT]) -> usize
+    ensures same { SameDesk desk.old desk.new }
+    ensures closed { Closed (closed (book_on desk.old) carry.now.items) out.old desk.new result out.new }
 {
-    State {
-        n: 0,
-        m: 0,
-        carried: 0,
-        waiting: 0,
+    if carry.is_empty() {
+        return 0;
     }
+    answer(desk, carry.as_slice(), out, 0)
 }

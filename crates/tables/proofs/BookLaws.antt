@@ -21,7 +21,7 @@ use lib.Seq.{ext_get_or}
 use Rattle.inheritance.specs.Above.{Chain, link, step, Acyclic}
 use Rattle.inheritance.proofs.AboveLaws.{chainless_acyclic, count_none}
 use Rattle.inheritance.proofs.LookupLaws.{lookup_bare}
-use Rattle.tables.specs.Entry.{entry_of}
+use Rattle.inheritance.specs.Entry.{entry_of}
 use Rattle.tables.specs.Reply.{given}
 use Rattle.tables.specs.Tables.{Tables, lent, shaped, LengthsOf, up_of, own_of, entry_at, listed, grid, entries_of, bytes_right, sound}
 use Rattle.tables.specs.Tables.{is_dispute, disputes_at, disputes_of}

@@ -20,7 +20,7 @@ use Rattle.inheritance.specs.declared.Lookup.{Lookup}
 use Rattle.inheritance.specs.declared.Lookup.TheVariants.{None, Rule, Dispute}
 use Rattle.inheritance.specs.Lookup.{lookup}
 use Rattle.inheritance.proofs.LookupLaws.{InRange, lookup_range}
-use Rattle.tables.specs.Entry.{entry_of}
+use Rattle.inheritance.specs.Entry.{entry_of}
 use Rattle.tables.specs.Reply.{refused, given, Finding, Fault}
 use Rattle.tables.specs.Tables.{Tables, shaped, up_of, own_of, entry_at, all_below, byte_right, bytes_right, kind_free, entry_right}
 use Rattle.tables.specs.Tables.{count_right, well_linked, sound_over, sound}

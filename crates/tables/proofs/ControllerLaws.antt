@@ -12,7 +12,7 @@ use Rattle.inheritance.specs.declared.Lookup.{Lookup}
 use Rattle.inheritance.specs.declared.Lookup.TheVariants.{None, Rule, Dispute}
 use Rattle.inheritance.specs.Lookup.{lookup}
 use Rattle.tables.specs.Caller.{callers}
-use Rattle.tables.specs.Entry.{entry_of}
+use Rattle.inheritance.specs.Entry.{entry_of}
 use Rattle.tables.specs.Reply.{given}
 use Rattle.tables.specs.Tables.{Tables, shaped, sound, up_of, own_of}
 use Rattle.tables.specs.Controller.{words16, spelled, shaped_bytes, packed, find_packed}

@@ -30,7 +30,7 @@ use Rattle.inheritance.specs.Lookup.{Below, lookup}
 use Rattle.inheritance.proofs.AboveLaws.{SameBut, no_chain, upto_step, chain_above, link_acyclic, unlink_acyclic}
 use Rattle.inheritance.proofs.TouchLaws.{below_carries, upto_carries, rule_touched, link_keeps_parent, link_touched}
 use Rattle.tables.specs.Caller.{callers}
-use Rattle.tables.specs.Entry.{entry_of}
+use Rattle.inheritance.specs.Entry.{entry_of}
 use Rattle.tables.specs.Reply.{given}
 use Rattle.tables.specs.Tables.{Tables, shaped, LengthsOf, Sized, up_of, own_of, entry_at, grid, entries_of, bytes_right, sound, differing, tallied}
 use Rattle.tables.specs.Touch.{RuleTouches, LinkTouches}

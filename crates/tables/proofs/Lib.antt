@@ -6,12 +6,13 @@ pub mod CallerLaws
 pub mod ControllerLaws
 pub mod DisputeLaws
 pub mod EditLaws
-pub mod EntryLaws
 pub mod FindingLaws
 pub mod ListLaws
 pub mod ListStepLaws
 pub mod NeverLaws
 pub mod PartiesLaws
+pub mod RecordLaws
+pub mod ReplyLaws
 pub mod ShapeLaws
 pub mod SoundLaws
 pub mod TableLaws

@@ -17,7 +17,7 @@ use Rattle.inheritance.specs.declared.Lookup.{Lookup}
 use Rattle.inheritance.specs.declared.Lookup.TheVariants.{None, Rule, Dispute}
 use Rattle.inheritance.specs.Lookup.{lookup, Left, Two}
 use Rattle.inheritance.proofs.LookupLaws.{InRange, left_two, lookup_range, lookup_dispute_iff}
-use Rattle.tables.specs.Entry.{entry_of}
+use Rattle.inheritance.specs.Entry.{entry_of}
 use Rattle.tables.specs.Reply.{refused, given, TwoKinds}
 use Rattle.tables.specs.Tables.{Tables, shaped, up_of, own_of, entry_at, is_dispute, sound}
 use Rattle.tables.specs.Calls.{check, leaves, kinds_left, lowest_two, parties}

@@ -31,12 +31,12 @@ use Rattle.inheritance.proofs.Bools.{same_bool}
 use Rattle.inheritance.proofs.LeftLaws.{left_agree}
 use Rattle.inheritance.proofs.LookupLaws.{InRange, lookup_range, unique_by}
 use Rattle.inheritance.proofs.StepLaws.{step_same, step_keeps, lookup_step}
-use Rattle.tables.specs.Entry.{entry_of, lookup_of}
+use Rattle.inheritance.specs.Entry.{entry_of, lookup_of}
 use Rattle.tables.specs.Tables.{Tables, up_of, own_of, entry_at, entries_of, disputes_of}
 use Rattle.tables.specs.Tables.{all_below, entry_right, count_right, bytes_right, well_linked, sound_over, sound}
 use Rattle.tables.specs.Step.{read, stepped, kind_right, right}
 use Rattle.tables.proofs.DisputeLaws.{counts_mean, mean_counts}
-use Rattle.tables.proofs.EntryLaws.{Coded, entry_lookup, coded_none, coded_rule, coded_dispute, coded_read}
+use Rattle.inheritance.proofs.EntryLaws.{Coded, entry_lookup, coded_none, coded_rule, coded_dispute, coded_read}
 use Rattle.tables.proofs.TableLaws.{below_true, true_below, below_same, length_grid, grid_at, grid_ext}
 
 abbrev pub Stepped : (n m : ℕ) (up : ℕ → ℕ → Bool) (rules entries : List ℕ) → Type 0

@@ -12,7 +12,7 @@ use Rattle.tables.specs.declared.Edit.{Edit}
 use Rattle.tables.specs.declared.Request.{Request as CodeRequest}
 use Rattle.tables.specs.declared.Call.{Call as CodeCall}
 use Rattle.tables.specs.declared.Answer.{Answer as CodeAnswer}
-use Rattle.tables.specs.Reply.{Reply, refused, given, Finding, Fault, TwoKinds, Listing, whole, stopped, opened, edited, found, paired, inspected}
+use Rattle.tables.specs.Reply.{Reply, refused, given, Finding, Fault, TwoKinds, Listing, whole, stopped, replied, replied_as, found_of, kinds_of, fault_in}
 use Rattle.tables.specs.Tables.{Tables}
 use Rattle.tables.specs.Calls as calls
 use Rattle.tables.specs.Calls.{Outcome}
@@ -89,11 +89,11 @@ abbrev pub call_of : CodeCall → Call
 call_of call = record { n = call.n; m = call.m; request = request_of call.request }
 
 abbrev pub answered : CodeAnswer → Answer
-answered (CodeAnswer.Opened reply) = opening (opened reply)
-answered (CodeAnswer.Edited reply) = editing (edited reply)
-answered (CodeAnswer.Found reply) = finding (found reply)
-answered (CodeAnswer.Paired reply) = pairing (paired reply)
-answered (CodeAnswer.Inspected reply) = inspecting (inspected reply)
+answered (CodeAnswer.Opened reply) = opening (replied reply)
+answered (CodeAnswer.Edited reply) = editing (replied reply)
+answered (CodeAnswer.Found reply) = finding (replied_as found_of reply)
+answered (CodeAnswer.Paired reply) = pairing (replied_as kinds_of reply)
+answered (CodeAnswer.Inspected reply) = inspecting (replied_as fault_in reply)
 
 -- ---- the edits of a caller
 

@@ -3,7 +3,6 @@ pub mod Caller
 pub mod Calls
 pub mod Controller
 pub mod Edit
-pub mod Entry
 pub mod ListSteps
 pub mod Lists
 pub mod Reply

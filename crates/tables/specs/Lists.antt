@@ -1,15 +1,16 @@
 -- The four edits as values, and a list of them in one call.
 --     Change          one of the four edits, with any arguments; change_of: the one that the code's value stands for
 --     edit_outcome    what an edit of a caller answers and the tables that it leaves
---     change_in       the change that a record of a list stands for; record_outcome: what its edit answers and leaves
+--     change_in       the change that a record of a list stands for, and Recorded: the code has it so; record_outcome: what its edit answers and leaves
 --     run             the state that a list of steps leaves: each step gets it as the step before left it
 --     make_list       what a list of records answers and leaves
 -- Assumes nothing.
-use Rattle.std.specs.Prelude.{true, false, ◌&&◌, List, [], ◌∷◌, ℕ, ◌+◌, eqb, leb, ltb, length}
+use Rattle.std.specs.Prelude.{◌≡◌, Result, true, false, ◌&&◌, List, [], ◌∷◌, ℕ, ◌+◌, eqb, leb, ltb, length}
 use Rattle.tables.specs.declared.Change.{Change as CodeChange}
 use Rattle.tables.specs.declared.Edit.{Edit}
+use Rattle.tables.specs.declared.Refusal.{Refusal}
 use Rattle.tables.specs.Caller.{callers}
-use Rattle.tables.specs.Reply.{Reply, refused, given, Listing, whole, stopped}
+use Rattle.tables.specs.Reply.{Reply, refused, given, replied_as, Listing, whole, stopped}
 use Rattle.tables.specs.Tables.{Tables, shaped, sound}
 use Rattle.tables.specs.Calls as calls
 use Rattle.tables.specs.Calls.{Outcome, leaves, check}
@@ -49,6 +50,9 @@ change_in e =
         ]
       ]
     ]
+
+abbrev pub Recorded : Edit → Result CodeChange Refusal → Type 0
+Recorded e r = replied_as change_of r ≡ change_in e
 
 -- the edit of a change that there is; a record that has none is refused and leaves the tables
 abbrev pub if_change : (n m : ℕ) → Tables → (caller : ℕ) → Reply Change → Outcome ℕ

@@ -2,16 +2,15 @@
 --     Reply              a refusal with its number, or what the call gives
 --     Finding            what find gives; Fault: what inspect gives; TwoKinds: what parties gives; Listing: what a list of edits gives
 --     refusal_number     the number of each refusal
---     opened, edited, found, paired, inspected, carried    the number and values of each case of an answer: the promises use these
+--     replied, replied_as                        the reply that the code's answer stands for
+--     found_of, kinds_of, fault_in, listing_of   the number and values of each case of what it gives
 -- Assumes nothing.
-use Rattle.std.specs.Prelude.{ℕ}
+use Rattle.std.specs.Prelude.{◌≡◌, ℕ, Option, Some, None, Result}
+use Rattle.inheritance.specs.declared.Kind.{Kind}
 use Rattle.tables.specs.declared.Refusal.{Refusal}
-use Rattle.tables.specs.declared.Opened.{Opened}
-use Rattle.tables.specs.declared.Edited.{Edited}
 use Rattle.tables.specs.declared.Found.{Found}
-use Rattle.tables.specs.declared.Pair.{Pair}
-use Rattle.tables.specs.declared.Inspected.{Inspected}
-use Rattle.tables.specs.declared.Carried.{Carried}
+use Rattle.tables.specs.declared.Fault.{Fault as CodeFault}
+use Rattle.tables.specs.declared.Listing.{Listing as CodeListing}
 
 pub data Reply (A : Type 0) : Type 0 where
   refused : (number : ℕ) → Reply A
@@ -59,33 +58,40 @@ refusal_number Refusal.Name = 14
 refusal_number Refusal.Unsaved = 15
 refusal_number Refusal.NoEdit = 19
 
-abbrev pub opened : Opened → Reply (Unit {0})
-opened Opened.Done = given tt
-opened (Opened.Refused why) = refused (refusal_number why)
+-- the code's number of a refusal
+abbrev pub Numbered : Refusal → ℕ → Type 0
+Numbered why number = number ≡ refusal_number why
 
-abbrev pub edited : Edited → Reply ℕ
-edited (Edited.Done count) = given count
-edited (Edited.Refused why) = refused (refusal_number why)
+-- ---- as the code has them
 
-abbrev pub found : Found → Reply Finding
-found Found.None = given none
-found (Found.Rule k handling) = given (rule k.0 handling)
-found (Found.Dispute k) = given (dispute k.0)
-found (Found.Refused why) = refused (refusal_number why)
+-- the reply that the code's answer stands for, where each value stands for one of another type
+abbrev pub replied_as : {A B : Type 0} → (A → B) → Result A Refusal → Reply B
+replied_as of (Result.Ok value) = given (of value)
+replied_as of (Result.Err why) = refused (refusal_number why)
 
-abbrev pub paired : Pair → Reply TwoKinds
-paired (Pair.Kinds j k) = given (record { one = j.0; other = k.0 })
-paired (Pair.Refused why) = refused (refusal_number why)
+-- .. and where it stands for itself
+abbrev pub replied : {A : Type 0} → Result A Refusal → Reply A
+replied (Result.Ok value) = given value
+replied (Result.Err why) = refused (refusal_number why)
 
-abbrev pub inspected : Inspected → Reply Fault
-inspected Inspected.Sound = given sound
-inspected (Inspected.LinkByte place) = given (link_byte place)
-inspected (Inspected.AboveItself k) = given (above_itself k.0)
-inspected (Inspected.WrongEntry place) = given (wrong_entry place)
-inspected (Inspected.WrongCount j) = given (wrong_count j.0)
-inspected (Inspected.Refused why) = refused (refusal_number why)
+abbrev pub found_of : Found → Finding
+found_of Found.None = none
+found_of (Found.Rule k handling) = rule k.0 handling
+found_of (Found.Dispute k) = dispute k.0
 
-abbrev pub carried : Carried → Reply Listing
-carried (Carried.Whole accepted changed) = given (whole accepted changed)
-carried (Carried.Stopped accepted changed why) = given (stopped accepted changed (refusal_number why))
-carried (Carried.Refused why) = refused (refusal_number why)
+abbrev pub kinds_of : Kind × Kind → TwoKinds
+kinds_of (j, k) = record { one = j.0; other = k.0 }
+
+abbrev pub fault_in : Option CodeFault → Fault
+fault_in None = sound
+fault_in (Some (CodeFault.LinkByte place)) = link_byte place
+fault_in (Some (CodeFault.AboveItself k)) = above_itself k.0
+fault_in (Some (CodeFault.WrongEntry place)) = wrong_entry place
+fault_in (Some (CodeFault.WrongCount j)) = wrong_count j.0
+
+abbrev pub listed : (accepted changed : ℕ) → Option Refusal → Listing
+listed accepted changed None = whole accepted changed
+listed accepted changed (Some why) = stopped accepted changed (refusal_number why)
+
+abbrev pub listing_of : CodeListing → Listing
+listing_of l = listed l.accepted l.changed l.stopped

@@ -7,7 +7,7 @@ use Rattle.std.specs.Prelude.{Bool, List, ℕ, ◌+◌, ◌*◌, eqb, get_or}
 use Rattle.inheritance.specs.declared.Lookup.{Lookup}
 use Rattle.inheritance.specs.Lookup.{left}
 use Rattle.inheritance.specs.Step.{step}
-use Rattle.tables.specs.Entry.{entry_of, lookup_of}
+use Rattle.inheritance.specs.Entry.{entry_of, lookup_of}
 use Rattle.tables.specs.Tables.{own_of, all_below}
 
 unfoldable pub read : ℕ → List ℕ → ℕ → ℕ → Lookup

@@ -15,7 +15,7 @@ use Rattle.std.specs.Prelude.{◌≡◌, Bool, true, false, ◌&&◌, not, List,
 use Rattle.inheritance.specs.Above.{above, count}
 use Rattle.inheritance.specs.Lookup.{lookup}
 use Rattle.tables.specs.Caller.{callers}
-use Rattle.tables.specs.Entry.{entry_of}
+use Rattle.inheritance.specs.Entry.{entry_of}
 
 pub record Tables : Type 0 where
   pub links : List ℕ

@@ -1,30 +1,19 @@
 -- Entries that are written, place by place, and counted where they were others.
---     other_byte                       whether an entry was another, as code computes it
 --     written_none, written_store      no mark is written; one more is
 --     written_one                      one mark alone is
 --     written_as                       the same under another description of the entries
 -- Assumes nothing.
 use mathlib.Core.Path.{◌≡◌, refl, sym, ◌∙◌, ap, subst}
 use mathlib.Core.Logic.{◌≢◌, ⊎_elim}
-use mathlib.Core.Bool.{Bool, true, false, not}
 use mathlib.Core.List.{List}
 use Prim.Native.Nat.{ℕ, ◌+◌, ◌*◌, ◌<◌, ◌≤◌}
 use native.Mathlib.Nat.{eq-or-lt_of_le, add-zero, zero-add, add_assoc}
 use native.Mathlib.Omega.{arith}
-use mir.Val.{bool_byte}
-use lib.Dec.{eqb}
 use lib.ListN.{length, get_or, set, length-set}
 use lib.Seq.{get_or-set_same, get_or-set_other}
 use Rattle.tables.specs.Tables.{differ, differing}
 use Rattle.tables.proofs.TableLaws.{differing_set}
 use Rattle.writing.specs.Written.{Written}
-
-pub other_byte : (x y : ℕ) → bool_byte (not (eqb x y)) ≡ differ x y
-other_byte x y = go (eqb x y)
-  where
-    go : (t : Bool) → bool_byte (not t) ≡ elim t [ true ↦ 0 | false ↦ 1 ]
-    go true = refl
-    go false = refl
 
 pub written_none : (m lo c : ℕ) (f : ℕ → ℕ) (xs : List ℕ) → Written m lo lo c f xs xs 0
 written_none m lo c f xs = record {

@@ -16,7 +16,7 @@ fn put(entries: &mut [u16], i: usize, e: u16) -> u16
 {
     let was = entries[i];
     entries[i] = e;
-    (was != e) as u16
+    u16::from(was != e)
 }
 
 // The entry of kind c for mark j is written, and the dispute count of the mark follows. 1 where it was another.

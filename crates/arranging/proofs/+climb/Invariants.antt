@@ -1,8 +1,9 @@
 -- The measure of `climb` is the count of kinds not yet visited: it falls where c is marked, and no kind is unvisited again.
--- The loop's invariant: p is a parent of c if it is a kind, and the parents before p are gone through. Assumes nothing.
-use Rattle.std.proofs.Common.{◌≡◌, true, ◌-◌, ◌<◌, ◌≤◌, min}
+-- The loop's invariant: the parents before some place are gone through, and those from it on are left. Assumes nothing.
+use Rattle.std.proofs.Common.{ℕ}
 use Rattle.inheritance.specs.Above.{count}
 use Rattle.relation.specs.Bit.{bit}
+use Rattle.relation.proofs.Taking.{Rest, left}
 use Rattle.arranging.specs.Arranged.{unvisited}
 use Rattle.arranging.proofs.Climbing.{Climbing}
 use Rattle.arranging.proofs.+climb.Given as goal
@@ -12,8 +13,8 @@ decreases-climb l = count (unvisited l.states.now) l.n
 
 abbrev pub invariant-loop-parent : goal.invariant-loop-parent
 invariant-loop-parent l =
-    (l.parent ≤ 128) × (l.parent < 128 → bit l.rows l.c l.parent ≡ true)
-    × Climbing l.n (bit l.rows) l.c (min l.parent l.n) l.k l.good l.low l.high l.initial.states l.states l.order l.initial.reach l.reach
+    (p : ℕ) × Rest (bit l.rows l.c) p l.rest
+    × Climbing l.n (bit l.rows) l.c p l.k l.good l.above l.initial.states l.states l.order l.initial.reach l.reach
 
 abbrev pub decreases-loop-parent : goal.decreases-loop-parent
-decreases-loop-parent l = l.n - l.parent
+decreases-loop-parent l = left l.rest

@@ -2,8 +2,8 @@
 use mathlib.Core.Path.{sym, ◌∙◌}
 use native.Mathlib.Omega.{arith}
 use borrow.Author.Tests.{eq-eqb}
-use Rattle.tables.proofs.TableLaws.{true_below}
-use Rattle.checking.proofs.CheckLaws.{plain_means, row_kind}
+use Rattle.tables.proofs.TableLaws.{true_below, row_in}
+use Rattle.checking.proofs.CheckLaws.{plain_means, rows_same, row_kind}
 use Rattle.merging.proofs.Giving.{row_decided}
 use Rattle.merging.proofs.NarrowLaws.{row_agreed}
 use Rattle.checking.proofs.kind_right.Goals as goal
@@ -23,7 +23,7 @@ returns-then-check_row c =
 pub returns : goal.returns
 returns c =
     let s = c.requires in (
-      c.row_right.ensures
+      rows_same _ _ _ _ (row_in _ _ _ s.sized_and_prepared.0.entries_size s.kind_and_counts.0) (omega (arith, c.decide_row.ensures.long)) c.row_right.ensures
           ∙ row_kind _ _ _ _ _ _
           (row_decided s.sized_and_prepared.1 s.sized_and_prepared.0.kinds _ _ s.kind_and_counts.0 (omega arith) c.check_row.ensures.0.row c.decide_row.ensures),
       c.decide_row.ensures.long,

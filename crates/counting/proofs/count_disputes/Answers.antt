@@ -6,4 +6,4 @@ use Rattle.counting.proofs.CountLaws.{none_counted}
 use Rattle.counting.proofs.count_disputes.Goals as goal
 
 pub loop-c-init : goal.loop-c-init
-loop-c-init c = c.clear.ensures ∙ ap (λ (k : ℕ). replicate k 0) c.requires.2 ∙ none_counted _ _
+loop-c-init c = c.fill.ensures.after (λ y is. is) ∙ ap (λ (k : ℕ). replicate k 0) c.requires.2 ∙ none_counted _ _

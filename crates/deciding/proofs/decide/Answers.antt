@@ -1,17 +1,18 @@
 -- `deciding::decide` meets its contract: each test picks a case of `deciding`. Assumes nothing.
-use Rattle.std.proofs.Common.{sym, ◌∙◌}
+use Rattle.std.proofs.Common.{refl, sym, ◌∙◌, arith}
 use mathlib.Core.Bool.{true, false}
-use Rattle.deciding.proofs.DecidingLaws.{deciding_none, deciding_some}
-use Rattle.deciding.proofs.Places.{first_same}
+use Rattle.deciding.proofs.DecidingLaws.{deciding_none, deciding_some, places_first, places_covered}
 use Rattle.deciding.proofs.decide.Goals as goal
 
-pub returns-then-i-eq128 : goal.returns-then-i-eq128
-returns-then-i-eq128 c ruled j same = deciding_none _ _ ruled _ j (first_same _ _ same c.first_of-i.ensures) c.if-i-eq128.true
+pub returns-in-None : goal.returns-in-None
+returns-in-None c ruled j same = deciding_none _ _ ruled _ j (places_first _ ruled _ j _ same c.in-None.ensures) refl
 
-pub returns-then-covers : goal.returns-then-covers
-returns-then-covers c ruled j same =
-    deciding_some _ _ ruled _ j (first_same _ _ same c.first_of-i.ensures) c.if-i-eq128.false true (sym c.if-covers.true ∙ c.covers.ensures ruled _ j same)
+pub returns-then-is_subset : goal.returns-then-is_subset
+returns-then-is_subset c ruled j same =
+    deciding_some _ _ ruled _ j (places_first _ ruled _ j _ same c.in-Some.ensures.0) (omega (arith, c.in-Some.ensures.1)) true
+    (sym c.if-is_subset.true ∙ places_covered _ ruled _ j _ same _ c.row.ensures c.is_subset.ensures)
 
-pub returns-else-covers : goal.returns-else-covers
-returns-else-covers c ruled j same =
-    deciding_some _ _ ruled _ j (first_same _ _ same c.first_of-i.ensures) c.if-i-eq128.false false (sym c.if-covers.false ∙ c.covers.ensures ruled _ j same)
+pub returns-else-is_subset : goal.returns-else-is_subset
+returns-else-is_subset c ruled j same =
+    deciding_some _ _ ruled _ j (places_first _ ruled _ j _ same c.in-Some.ensures.0) (omega (arith, c.in-Some.ensures.1)) false
+    (sym c.if-is_subset.false ∙ places_covered _ ruled _ j _ same _ c.row.ensures c.is_subset.ensures)

@@ -6,16 +6,15 @@ use mathlib.Core.Bool.{true}
 use Prim.Native.Nat.{◌+◌, ◌*◌, ◌≤◌}
 use native.Mathlib.Omega.{arith}
 use lib.ListN.{get_or}
-use Rattle.relation.proofs.Zeros.{blank_zeros}
 use Rattle.parting.proofs.PartyLaws.{dispute_two, pair_lowest}
 use Rattle.soundness.proofs.Soundness.{rows_links}
-use Rattle.tables.specs.Reply.{paired}
+use Rattle.tables.specs.Reply.{replied_as, kinds_of}
 use Rattle.tables.specs.Tables.{Tables, lent, sound}
 use Rattle.disputing.proofs.PartyLaws.{unsound, no_dispute, disputed}
 use Rattle.disputing.proofs.answer.Goals as goal
 
 pub examine-sound-requires-clause-blank : goal.examine-sound-requires-clause-blank
-examine-sound-requires-clause-blank c = (blank_zeros 256 refl, refl, blank_zeros 256 refl, blank_zeros 256 refl)
+examine-sound-requires-clause-blank c = (c.empty-rows.ensures, refl, c.empty-reach.ensures, c.empty-ruled.ensures)
 
 pub returns-then-not-sound : goal.returns-then-not-sound
 returns-then-not-sound c = λ tally. unsound _ _ _ _ _ (sym (c.examine-sound.ensures.answer tally) ∙ c.if-not-sound.true)
@@ -32,7 +31,7 @@ returns c =
     let found = c.if-not-sound.false in
     let is : sound a.n a.m t ≡ true = sym (c.examine-sound.ensures.answer tally) ∙ found in
     let is_dispute : 257 ≤ get_or a.entries.now (a.k.0 * a.m + a.j.0) 0 = rw (← c.place.ensures) (omega (arith, c.if-entries-place-lt257.false)) in
-    ap paired (c.left_pair.ensures _ _ _ (c.examine-sound.ensures.prepared found) within.mark_in_range)
+    ap (replied_as kinds_of) (c.left_pair.ensures _ _ _ (c.examine-sound.ensures.prepared found) within.mark_in_range)
     ∙ pair_lowest _ _ t within.kind_in_range within.mark_in_range _ (rows_links _ _ _ within.sizes.kinds (c.examine-sound.ensures.loaded found))
     (dispute_two _ _ t within.kind_in_range within.mark_in_range within.sizes.kinds within.sizes.entries_size counts is is_dispute)
     ∙ disputed _ _ t _ _ is is_dispute

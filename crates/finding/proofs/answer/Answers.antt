@@ -5,7 +5,7 @@ use Prim.Native.Nat.{ℕ}
 use borrow.Author.Tests.{lt-ltb, le-ltb}
 use Rattle.inheritance.specs.declared.Lookup.{Lookup}
 use Rattle.tables.specs.Calls.{finding_of}
-use Rattle.tables.specs.Entry.{lookup_of}
+use Rattle.inheritance.specs.Entry.{lookup_of}
 use Rattle.finding.proofs.FindLaws.{lookup_answer, finding_lookup}
 use Rattle.std.proofs.Common.{◌≤◌}
 use Rattle.finding.proofs.answer.Goals as goal

@@ -1,7 +1,6 @@
 -- `inspecting::first_apart` meets its contract. The loop's invariant: the tables hold the same below i. Assumes nothing.
-use mathlib.Core.Path.{sym}
 use borrow.Author.Tests.{eq-eqb, ne_eqb}
-use Rattle.inspecting.proofs.InspectLaws.{searching_none, searching_more, searching_found, searching_all, lowest_none}
+use Rattle.inspecting.proofs.InspectLaws.{searching_none, searching_more, searching_found, searching_all}
 use Rattle.inspecting.proofs.first_apart.Goals as goal
 
 pub loop-i-init : goal.loop-i-init
@@ -11,7 +10,7 @@ pub loop-i-preserved : goal.loop-i-preserved
 loop-i-preserved c = searching_more c.loop-i.invariant c.loop-i-test.true (eq-eqb _ _ c.if-xs-i.false)
 
 pub returns-then-xs-i : goal.returns-then-xs-i
-returns-then-xs-i c = sym (searching_found c.loop-i.invariant c.loop-i-test.true (ne_eqb _ _ c.if-xs-i.true)).1
+returns-then-xs-i c = searching_found c.loop-i.invariant c.loop-i-test.true (ne_eqb _ _ c.if-xs-i.true)
 
 pub returns : goal.returns
-returns c = sym (lowest_none _ _ (searching_all c.loop-i.invariant c.loop-i-test.false))
+returns c = searching_all c.loop-i.invariant c.loop-i-test.false

@@ -1,27 +1,32 @@
 -- `link_edits::change_link` meets its contract, by the steps of `LinkEditLaws`. Assumes nothing.
-use mathlib.Core.Path.{sym, ◌∙◌}
-use Rattle.asking.proofs.AskLaws.{asked_by}
+use mathlib.Core.Path.{sym, ap, ◌∙◌}
+use Prim.Native.Nat.{ℕ}
+use Rattle.books.proofs.AskLaws.{asked_by}
+use Rattle.tables.specs.Calls.{leaves}
+use Rattle.tables.specs.Reply.{Reply}
 use Rattle.tables.specs.Tables.{Tables, lent}
+use Rattle.tables.proofs.ReplyLaws.{passed_on}
 use Rattle.link_edits.proofs.LinkEditLaws.{first_refused, link_refused, link_passed}
 use Rattle.link_edits.proofs.change_link.Goals as goal
 
-pub returns-in-Refused : goal.returns-in-Refused
-returns-in-Refused c =
+pub returns-in_err-by : goal.returns-in_err-by
+returns-in_err-by c =
     let a = c.args in
     let t : Tables = lent a.links.now a.rules.now a.entries.now a.tally.now a.disputes.now in
-    first_refused _ _ t _ _ _ a.adding (sym c.in-Refused.ensures)
+    ap (λ (reply : Reply ℕ). leaves reply t) (passed_on _ _ c.from_residual.ensures.1) ∙ first_refused _ _ t _ _ _ a.adding (sym c.in_err-by.ensures)
 
-pub returns-in-Refused-ask_link : goal.returns-in-Refused-ask_link
-returns-in-Refused-ask_link c =
+pub returns-in_err-child : goal.returns-in_err-child
+returns-in_err-child c =
     let a = c.args in
     let t : Tables = lent a.links.now a.rules.now a.entries.now a.tally.now a.disputes.now in
-    let by = asked_by _ _ t _ (sym c.in-By.ensures) in
-    link_refused _ _ t _ _ _ a.adding by.fits by.caller_in_range (sym c.in-Refused-ask_link.ensures)
+    let by = asked_by _ _ t _ (sym c.in_ok-by.ensures) in
+    ap (λ (reply : Reply ℕ). leaves reply t) (passed_on _ _ c.from_residual-in_err-child.ensures.1)
+    ∙ link_refused _ _ t _ _ _ a.adding by.fits by.caller_in_range (sym c.in_err-child.ensures)
 
-pub returns-in-Between : goal.returns-in-Between
-returns-in-Between c =
+pub returns : goal.returns
+returns c =
     let a = c.args in
     let t : Tables = lent a.links.now a.rules.now a.entries.now a.tally.now a.disputes.now in
-    let by = asked_by _ _ t _ (sym c.in-By.ensures) in
+    let by = asked_by _ _ t _ (sym c.in_ok-by.ensures) in
     c.edit_link.ensures
-    ∙ rw by.the_caller (link_passed _ _ t _ _ _ a.adding by.fits by.caller_in_range (sym c.in-Between.ensures))
+    ∙ rw by.the_caller (link_passed _ _ t _ _ _ a.adding by.fits by.caller_in_range (sym c.in_ok-child.ensures))

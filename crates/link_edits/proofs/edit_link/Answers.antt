@@ -1,7 +1,6 @@
 -- `link_edits::edit_link` meets its contract: the tables are not sound, or all is known that `set_link` asks. Assumes nothing.
 use mathlib.Core.Path.{refl, sym, ◌∙◌}
 use Rattle.tables.specs.Tables.{Tables, lent}
-use Rattle.relation.proofs.Zeros.{blank_zeros}
 use Rattle.resettling.proofs.KnownLaws.{fits_sized}
 use Rattle.link_edits.proofs.LinkEditLaws.{link_unsound}
 use Rattle.link_edits.proofs.edit_link.Goals as goal
@@ -13,7 +12,7 @@ examine-sound-requires-clause-sized c =
     fits_sized _ _ t c.requires.0
 
 pub examine-sound-requires-clause-blank : goal.examine-sound-requires-clause-blank
-examine-sound-requires-clause-blank c = (blank_zeros 256 refl, refl, blank_zeros 256 refl, blank_zeros 256 refl)
+examine-sound-requires-clause-blank c = (c.empty-rows.ensures, refl, c.empty-reach.ensures, c.empty-ruled.ensures)
 
 pub returns-then-not-sound : goal.returns-then-not-sound
 returns-then-not-sound c =

@@ -1,21 +1,47 @@
 -- `lists::make_list` meets its contract: by the loop's invariant, and what `begin` and `step` of `listing` promise. Assumes nothing.
-use mathlib.Core.Path.{refl}
-use Rattle.relation.proofs.Zeros.{blank_zeros}
-use Rattle.lists.proofs.ListLoop.{begins, goes_on, runs_out}
+use Rattle.std.proofs.Common.{arith, refl, sym, ap, ◌∙◌, ◌+◌, drop}
+use Rattle.books.specs.Lent.{tables_of}
+use Rattle.tables.specs.Calls.{leaves}
+use Rattle.tables.specs.Lists.{run, next_edit, make_list}
+use Rattle.tables.specs.Reply.{Reply, Listing, listing_of}
+use Rattle.tables.specs.Tables.{Tables}
+use Rattle.tables.proofs.ReplyLaws.{passed_on_as}
+use Rattle.lists.proofs.RunLaws.{run_more, run_end, goes_on, run_over, run_refused}
 use Rattle.lists.proofs.make_list.Goals as goal
 
-pub begin-answer-requires : goal.begin-answer-requires
-begin-answer-requires c = (blank_zeros 256 refl, refl, blank_zeros 256 refl, blank_zeros 256 refl)
+pub begin-requires : goal.begin-requires
+begin-requires c = (c.empty-rows.ensures, refl, c.empty-reach.ensures, c.empty-ruled.ensures)
 
-pub loop-i-init : goal.loop-i-init
-loop-i-init c = begins _ _ _ _ _ _ refl refl c.begin-answer.ensures.0 c.begin-answer.ensures.1
+pub returns-in_err-listing-clause-outcome : goal.returns-in_err-listing-clause-outcome
+unfolding make_list
+returns-in_err-listing-clause-outcome c =
+    let a = c.args in
+    let t : Tables = tables_of a.book.now in
+    ap (λ (reply : Reply Listing). leaves reply t) (passed_on_as _ _ c.from_residual.ensures.1 listing_of)
+    ∙ sym (run_refused a.book.now.n a.book.now.m a.caller.0 a.edits.now t _) ∙ ap (run (next_edit a.book.now.n a.book.now.m a.caller.0) a.edits.now) c.in_err-listing.ensures.outcome
 
-pub loop-i-preserved : goal.loop-i-preserved
-loop-i-preserved c =
-    let long = c.step-answer.auto in
-    goes_on _ _ _ _ _ _ c.loop-i.invariant c.loop-i-test.true _ refl
-    (record { links = long.links; rules = long.rules; entries = long.entries; tally = long.tally; disputes = long.disputes })
-    c.step-answer.ensures.0 c.step-answer.ensures.1
+pub loop-edit-init : goal.loop-edit-init
+unfolding make_list
+loop-edit-init c =
+    let a = c.args in
+    let begun = c.in_ok-listing.ensures in
+    record { same = ap (run (next_edit a.book.now.n a.book.now.m a.caller.0) a.edits.now) begun.outcome; going = begun.ready.0; all = begun.ready.1; short = begun.ready.2 }
 
-pub returns : goal.returns
-returns c = runs_out _ _ _ _ _ _ c.loop-i.invariant c.loop-i-test.false
+pub loop-edit-preserved : goal.loop-edit-preserved
+loop-edit-preserved c =
+    let (going, one) = goes_on _ (sym c.is_some.ensures ∙ c.if-is_some.false) c.step-listing.ensures.ready in
+    record {
+      same = run_more _ _ _ _ c.loop-edit-test.true c.step-listing.ensures.outcome c.loop-edit.invariant.same;
+      going = going;
+      all = omega (arith, one, c.loop-edit.invariant.all);
+      short = c.loop-edit.invariant.short;
+    }
+
+pub returns-then-is_some-clause-outcome : goal.returns-then-is_some-clause-outcome
+returns-then-is_some-clause-outcome c =
+    let a = c.args in
+    sym (run_over a.book.now.n a.book.now.m a.caller.0 (drop (c.loop-edit.edit-index + 1) a.edits.now) _ _ _ _ (sym c.is_some.ensures ∙ c.if-is_some.true))
+    ∙ run_more _ _ _ _ c.loop-edit-test.true c.step-listing.ensures.outcome c.loop-edit.invariant.same
+
+pub returns-clause-outcome : goal.returns-clause-outcome
+returns-clause-outcome c = sym (run_end _ _ _ _ c.loop-edit-test.false) ∙ c.loop-edit.invariant.same

@@ -1,19 +1,19 @@
--- `lists::make_list` meets its contract. The loop's invariant, `Ahead`: from the record reached on, what comes out is what was to come out
--- from the start. Assumes nothing.
-use Rattle.std.proofs.Common.{◌-◌, length}
+-- `lists::make_list` meets its contract. The loop's invariant: from the record reached on, what comes out is what was to come out from the
+-- start, the list goes on, and each record before was accepted. Assumes nothing.
+use Rattle.std.proofs.Common.{◌≡◌, ◌≤◌, length, drop}
+use Rattle.books.specs.Lent.{tables_of}
+use Rattle.tables.specs.Calls.{leaves}
+use Rattle.tables.specs.Lists.{most_records, run, next_edit, make_list}
+use Rattle.tables.specs.Reply.{given, listing_of}
 use Rattle.tables.specs.Tables.{lent}
-use Rattle.lists.proofs.ListLoop.{Ahead}
+use Rattle.lists.specs.Going.{Going}
 use Rattle.lists.proofs.make_list.Given as goal
 
-abbrev pub invariant-loop-i : goal.invariant-loop-i
-invariant-loop-i l =
-    Ahead l.n l.m l.caller.0 (lent l.fn.links l.fn.rules l.fn.entries l.fn.tally l.fn.disputes) l.edits
-    (record {
-      at = l.i;
-      answer = l.answer;
-      tables = lent l.links l.rules l.entries l.tally l.disputes;
-      scratch = record { rows = l.rows; order = l.order; reach = l.reach; ruled = l.ruled };
-    })
-
-abbrev pub decreases-loop-i : goal.decreases-loop-i
-decreases-loop-i l = length l.edits - l.i
+abbrev pub invariant-loop-edit : goal.invariant-loop-edit
+invariant-loop-edit l = record {
+  same : run (next_edit l.n l.m l.caller.0) (drop l.edit-index l.edits) (leaves (given (listing_of l.listing)) (lent l.links l.rules l.entries l.tally l.disputes))
+      ≡ make_list l.n l.m (tables_of l.fn.book) l.caller.0 l.edits;
+  going : Going l.n l.m l.caller.0 (lent l.links l.rules l.entries l.tally l.disputes) l.listing l.rows l.order l.reach l.ruled;
+  all : l.listing.accepted ≡ l.edit-index;
+  short : length l.edits ≤ most_records;
+}

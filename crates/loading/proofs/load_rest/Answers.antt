@@ -6,7 +6,7 @@ use Rattle.loading.proofs.load_rest.Goals.{then-links-c-eq1, else-links-c-eq1}
 
 pub loop-p-preserved : goal.loop-p-preserved
 loop-p-preserved c = elim c.if-links-c-eq1.branch [
-  | then-links-c-eq1 w ↦ rw w.rows-is (filled_mark _ _ _ _ _ _ (omega arith) (omega arith) c.loop-p.invariant w.if-links-c-eq1.true w.mark.ensures)
+  | then-links-c-eq1 w ↦ rw w.rows-is (filled_mark _ _ _ _ _ _ (omega arith) (omega arith) c.loop-p.invariant w.if-links-c-eq1.true w.insert.ensures)
   | else-links-c-eq1 w ↦ rw w.rows-is (filled_keep _ _ _ _ _ c.loop-p.invariant w.if-links-c-eq1.false)
 ]
 

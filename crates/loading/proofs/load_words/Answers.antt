@@ -4,5 +4,5 @@ use Rattle.loading.proofs.load_words.Goals as goal
 
 pub returns : goal.returns
 returns c =
-    filled_words c.args.n c.args.c _ c.args.links.now c.args.rows.now _ _ c.requires.1 c.requires.2
-    c.most_eight-low.ensures c.word.ensures c.word-2.ensures c.requires.4
+    filled_words c.args.n c.args.c _ c.args.links.now _ c.args.rows.now _ c.requires.1 c.requires.2
+    c.min-low.ensures c.word.ensures c.word-2.ensures c.set_row.ensures c.requires.4

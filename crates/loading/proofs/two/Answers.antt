@@ -7,4 +7,4 @@ pub returns : goal.returns
 returns c =
     let at : c.args.i + 0 ≡ c.args.i = omega arith in
     let zero = rw at at (c.requires.1 0 (omega arith)) in
-    rw (c.wide.ensures, c.wide-2.ensures) (spaced_join _ c.args.i 1 _ _ (omega arith) (spaced_one _ c.args.i zero) (spaced_one _ (c.args.i + 1) (c.requires.1 1 (omega arith))))
+    rw (c.from.ensures, c.from-2.ensures) (spaced_join _ c.args.i 1 _ _ (omega arith) (spaced_one _ c.args.i zero) (spaced_one _ (c.args.i + 1) (c.requires.1 1 (omega arith))))

@@ -1,22 +1,36 @@
--- `merging::merge_parents` meets its contract. The loop's invariant: the row has what the parents below p give, and p is a parent
--- if it is a kind. Assumes nothing.
-use Rattle.std.proofs.Common.{arith, min, refl, ◌≡◌}
+-- `merging::merge_parents` meets its contract. The loop's invariant: the row has what the parents before some place give, and those from it on are
+-- left. Assumes nothing.
+use Rattle.std.proofs.Common.{◌+◌, arith, refl}
+use Rattle.relation.proofs.Taking.{rest_row, rest_some, rest_none, rest_more, fewer_left}
 use Rattle.merging.proofs.Giving.{row_empty, row_first, row_merge, row_next}
 use Rattle.merging.proofs.merge_parents.Goals as goal
 
-pub returns-then-first-n : goal.returns-then-first-n
-returns-then-first-n c = row_empty _ _ _ _ 64 refl (omega arith) c.next-first.ensures c.if-first-n.true
+pub returns-in_default : goal.returns-in_default
+returns-in_default c =
+    row_empty _ _ _ _ 64 refl (omega arith) (rest_none c.requires.kind_and_tables.1 (rest_row _ _ c.row-rest.ensures) (omega arith) c.in_default.ensures)
 
 pub loop-p-init : goal.loop-p-init
 loop-p-init c =
-    let f = c.next-first.ensures in
-    (c.next-p.ensures.high, c.next-p.ensures.found, row_next _ _ _ _ c.next-p.ensures (omega arith) (row_first _ _ _ _ f c.if-first-n.false (f.found (omega arith)) c.take_row.ensures))
+    let (t, lt, gone) = c.in-Some.ensures in
+    let most = c.requires.kind_and_tables.1 in
+    let r = rest_row _ _ c.row-rest.ensures in
+    let f = rest_some most r t lt in
+    (c.in-Some.first + 1, omega arith, rest_more most r f gone, row_first _ _ _ _ f lt c.take_row.ensures)
 
 pub loop-p-preserved : goal.loop-p-preserved
 loop-p-preserved c =
-    let at : min c.loop-p.p c.args.n ≡ c.loop-p.p = omega arith in (
-      c.next-p-in-loop-p.ensures.high,
-      c.next-p-in-loop-p.ensures.found,
-      row_next _ _ _ _ c.next-p-in-loop-p.ensures (omega arith)
-          (row_merge _ _ _ _ _ (c.loop-p.invariant.1 (omega arith)) (rw at at c.loop-p.invariant.2) c.merge_row.ensures),
-    )
+    let (t, lt, gone) = c.in-Some-take_first.ensures in
+    let (i, within, r, row) = c.loop-p.invariant in
+    let most = c.requires.kind_and_tables.1 in
+    let f = rest_some most r t lt in
+    (c.in-Some-take_first.p + 1, omega arith, rest_more most r f gone, row_merge _ _ _ _ _ (f.found lt) (row_next _ _ _ _ f row) c.merge_row.ensures)
+
+pub loop-p-smaller : goal.loop-p-smaller
+loop-p-smaller c =
+    let (t, lt, gone) = c.in-Some-take_first.ensures in
+    fewer_left (omega (arith, c.requires.kind_and_tables.1)) (t.found lt) gone
+
+pub returns : goal.returns
+returns c =
+    let (i, within, r, row) = c.loop-p.invariant in
+    row_next _ _ _ _ (rest_none c.requires.kind_and_tables.1 r within c.in_default-take_first.ensures) row

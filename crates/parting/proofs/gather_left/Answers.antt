@@ -3,15 +3,16 @@ use Rattle.std.proofs.Common.{ap₂, arith, sym, ◌∙◌}
 use mathlib.Core.Bool.{◌&&◌}
 use Rattle.parting.proofs.PartingLaws.{gathered_none, gathered_take, gathered_skip}
 use Rattle.parting.proofs.gather_left.Goals as goal
-use Rattle.parting.proofs.gather_left.Goals.{then-test, else-test}
+use Rattle.parting.proofs.gather_left.Goals.{then-has, else-has}
 
 pub loop-i-init : goal.loop-i-init
-loop-i-init c = gathered_none _ _ _ _ _ _ c.requires.3 c.requires.4
+loop-i-init c = gathered_none _ _ _ _ _ _ c.requires.3
 
 pub loop-i-preserved : goal.loop-i-preserved
 loop-i-preserved c =
-    let tested = ap₂ ◌&&◌ (sym c.test.ensures) (sym c.test-in-loop-i.ensures) in
-    elim c.if-test.branch [
-      | then-test w ↦ rw w.left-is (gathered_take _ _ _ _ _ _ c.requires.3 _ c.requires.0 (omega arith) (tested ∙ w.if-test.true) w.take_place.ensures c.loop-i.invariant)
-      | else-test w ↦ rw w.left-is (gathered_skip _ _ _ _ _ _ c.requires.3 _ (omega arith) (tested ∙ w.if-test.false) c.loop-i.invariant)
+    let tested = ap₂ ◌&&◌ (sym c.has.ensures) (sym c.has-in-loop-i.ensures) in
+    elim c.if-has.branch [
+      | then-has w ↦ rw (w.left-is, w.above-is)
+          (gathered_take _ _ _ _ _ _ c.requires.3 _ c.requires.0 (omega arith) (tested ∙ w.if-has.true) w.take_place.ensures.left w.take_place.ensures.above c.loop-i.invariant)
+      | else-has w ↦ rw (w.left-is, w.above-is) (gathered_skip _ _ _ _ _ _ c.requires.3 _ (omega arith) (tested ∙ w.if-has.false) c.loop-i.invariant)
     ]

@@ -19,7 +19,7 @@ pub relink-requires : goal.relink-requires
 relink-requires c =
     let p = c.requires.known_and_in_range in
     let h = has p.0 in (
-      record { kinds = h.sizes.kinds; marks = h.sizes.marks; rules_size = h.sizes.rules_size; rows_long = p.0.tracked.loaded.long; order_long = p.0.tracked.prepared.arranged.long_order },
+      record { kinds = h.sizes.kinds; marks = h.sizes.marks; rules_size = h.sizes.rules_size; order_long = p.0.tracked.prepared.arranged.long_order },
       p.2,
       p.3,
     )

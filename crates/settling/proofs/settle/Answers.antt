@@ -1,10 +1,11 @@
 -- `settling::settle` meets its contract. The loop's invariant: the kinds at the last t places are worked out, and the counts are those of the entries.
 -- Assumes nothing.
-use mathlib.Core.Path.{◌≡◌}
+use mathlib.Core.Path.{◌≡◌, sym, ◌∙◌}
+use mathlib.Core.Bool.{false≢true}
 use native.Mathlib.Nat.{mul-le-mul}
 use native.Mathlib.Omega.{arith}
 use Rattle.settling.proofs.Order.{settling_none, settling_kind, settling_skip, settling_few, settled}
-use Rattle.settling.proofs.settle.Goals.{then-visited-c-eq1, else-visited-c-eq1}
+use Rattle.settling.proofs.settle.Goals.{then-contains, else-contains}
 use Rattle.settling.proofs.settle.Goals as goal
 
 pub loop-t-init : goal.loop-t-init
@@ -22,17 +23,17 @@ pub loop-t-preserved : goal.loop-t-preserved
 loop-t-preserved c =
     let s = c.requires in
     let l = c.loop-t.invariant in
-    elim c.if-visited-c-eq1.branch [
-      | then-visited-c-eq1 w ↦ (
+    elim c.if-contains.branch [
+      | then-contains w ↦ (
         omega arith,
         rw (w.entries-is, w.count-is)
             (settling_kind _ _ _ _ _ _ _ _ _ s.sized_and_prepared.0.kinds s.sized_and_prepared.1.arranged _ _ (omega arith) l.1 s.awaiting_and_counted.0.high w.settle_kind-count.ensures.1),
         rw (w.entries-is, w.disputes-is) w.settle_kind-count.ensures.2,
       )
-      | else-visited-c-eq1 w ↦ (
+      | else-contains w ↦ (
         omega arith,
         rw (w.entries-is, w.count-is)
-            (settling_skip _ _ _ _ _ _ _ _ _ s.sized_and_prepared.0.kinds s.sized_and_prepared.1.arranged _ _ (omega arith) l.1 w.if-visited-c-eq1.false),
+            (settling_skip _ _ _ _ _ _ _ _ _ s.sized_and_prepared.0.kinds s.sized_and_prepared.1.arranged _ _ (omega arith) l.1 (λ v. false≢true (sym w.if-contains.false ∙ c.contains.ensures ∙ v))),
         rw (w.entries-is, w.disputes-is) l.2,
       )
     ]

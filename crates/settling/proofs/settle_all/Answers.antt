@@ -1,8 +1,7 @@
 -- `settling::settle_all` meets its contract: every kind is visited, so that every entry is settled; the counts are right from before on. Assumes nothing.
-use mathlib.Core.Path.{refl, ◌∙◌}
+use mathlib.Core.Path.{◌∙◌}
 use native.Mathlib.Omega.{arith}
 use Rattle.counting.proofs.CountLaws.{counted, counts_of}
-use Rattle.relation.proofs.Zeros.{blank_zeros}
 use Rattle.settling.proofs.Editing.{all_settled}
 use Rattle.settling.proofs.WholeLaws.{all_visited}
 use Rattle.settling.proofs.settle_all.Goals as goal
@@ -10,13 +9,13 @@ use Rattle.settling.proofs.settle_all.Goals as goal
 pub rule_rows-requires : goal.rule_rows-requires
 rule_rows-requires c =
     let s = c.requires in
-    (s.0.kinds, s.0.marks, s.0.rules_size, s.1.kinds, blank_zeros 256 refl)
+    (s.0.kinds, s.0.marks, s.0.rules_size, s.1.kinds, c.empty-ruled.ensures)
 
 pub settle-requires-clause-awaiting_and_counted : goal.settle-requires-clause-awaiting_and_counted
 settle-requires-clause-awaiting_and_counted c =
     let s = c.requires in (
       record { most = s.0.marks; low = omega arith; high = omega arith },
-      all_visited 128 _ _ _ _ c.args.entries.now refl (omega arith) s.0.kinds,
+      all_visited _ _ _ c.args.entries.now s.0.kinds,
       counted _ _ s.0.entries_size s.0.kinds c.count_disputes.ensures,
     )
 

@@ -1,12 +1,11 @@
--- `soundness::bytes_right` meets its contract. The loop's invariant: `good` says so of the bytes below i. Assumes nothing.
-use mathlib.Core.Path.{refl}
-use native.Mathlib.Omega.{arith}
+-- `soundness::bytes_right` meets its contract. The loop's invariant: `good` says so of the bytes passed. Assumes nothing.
+use Rattle.std.proofs.Common.{refl}
 use Rattle.tables.specs.Tables.{all_below}
 use Rattle.tables.proofs.TableLaws.{below_suc}
 use Rattle.soundness.proofs.bytes_right.Goals as goal
 
-pub loop-i-init : goal.loop-i-init
-loop-i-init c = (omega arith, unfold all_below in refl)
+pub loop-byte-init : goal.loop-byte-init
+loop-byte-init c = unfold all_below in refl
 
-pub loop-i-preserved : goal.loop-i-preserved
-loop-i-preserved c = (omega arith, rw (below_suc, ← c.loop-i.invariant.1) refl)
+pub loop-byte-preserved : goal.loop-byte-preserved
+loop-byte-preserved c = rw (below_suc, ← c.loop-byte.invariant) refl

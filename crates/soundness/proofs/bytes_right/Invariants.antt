@@ -1,9 +1,7 @@
--- `soundness::bytes_right` meets its contract. The loop's invariant: `good` says so of the bytes below i. Assumes nothing.
-use mathlib.Core.Path.{◌≡◌}
-use Prim.Native.Nat.{◌≤◌}
-use lib.ListN.{length}
+-- `soundness::bytes_right` meets its contract. The loop's invariant: `good` says so of the bytes passed. Assumes nothing.
+use Rattle.std.proofs.Common.{◌≡◌}
 use Rattle.tables.specs.Tables.{all_below, byte_right}
 use Rattle.soundness.proofs.bytes_right.Given as goal
 
-abbrev pub invariant-loop-i : goal.invariant-loop-i
-invariant-loop-i l = (l.i ≤ length l.links) × (l.good ≡ all_below (byte_right l.links) l.i)
+abbrev pub invariant-loop-byte : goal.invariant-loop-byte
+invariant-loop-byte l = l.good ≡ all_below (byte_right l.links) l.byte-index

@@ -27,7 +27,7 @@ returns c =
     let is = c.if-not-examine_links.false in
     let loaded = links.loaded (linked_bytes _ _ s.1 (sym links.answer ∙ is)) in
     let entries = c.entries_right-right.ensures in
-    let counts = c.counts_right.ensures ∙ counts_tests _ _ _ c.args.disputes.now s.2 entries.1 in
+    let counts = counts_tests _ _ _ c.args.disputes.now s.2 entries.1 c.counts_right.ensures in
     record {
       loaded = λ _. loaded;
       prepared = λ _. record { arranged = links.arranged is; rule_kinds = c.rule_rows.ensures };

@@ -11,7 +11,6 @@ returns-then-not-bytes_right c =
     let s = c.requires in
     let wrong = sym c.bytes_right.ensures ∙ c.if-not-bytes_right.true in
     record {
-      long = s.2.long;
       loaded = λ is. absurd (false≢true (sym wrong ∙ is));
       arranged = λ e. absurd (false≢true e);
       answer = bytes_wrong _ _ s.1 wrong;
@@ -27,7 +26,6 @@ returns c =
     let s = c.requires in
     let right = sym c.bytes_right.ensures ∙ c.if-not-bytes_right.false in
     record {
-      long = c.load.ensures.long;
       loaded = λ _. c.load.ensures;
       arranged = c.arrange.ensures.arranged;
       answer = links_tests _ _ _ s.0 c.load.ensures _ _ _ c.arrange.ensures s.1 right;

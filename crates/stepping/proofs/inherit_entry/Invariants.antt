@@ -1,15 +1,13 @@
--- `stepping::inherit_entry` meets its contract. The loop's invariant: e is what the parents below p give, and p is a parent if it is a kind.
+-- `stepping::inherit_entry` meets its contract. The loop's invariant: e is what the parents before some place give, and those from it on are left.
 -- Assumes nothing.
-use mathlib.Core.Path.{◌≡◌}
-use mathlib.Core.Bool.{true}
-use Prim.Native.Nat.{◌-◌, ◌<◌, ◌≤◌, min}
+use Rattle.std.proofs.Common.{ℕ, ◌≡◌, ◌≤◌}
 use Rattle.relation.specs.Bit.{bit}
+use Rattle.relation.proofs.Taking.{Rest, left}
 use Rattle.merging.specs.Merged.{given}
 use Rattle.stepping.proofs.inherit_entry.Given as goal
 
 abbrev pub invariant-loop-p : goal.invariant-loop-p
-invariant-loop-p l =
-    (l.p ≤ 128) × (l.p < 128 → bit l.rows l.c l.p ≡ true) × (l.e ≡ given l.m (bit l.rows) l.entries l.c (min l.p l.n) l.j)
+invariant-loop-p l = (i : ℕ) × (i ≤ l.n) × Rest (bit l.rows l.c) i l.rest × (l.e ≡ given l.m (bit l.rows) l.entries l.c i l.j)
 
 abbrev pub decreases-loop-p : goal.decreases-loop-p
-decreases-loop-p l = l.n - l.p
+decreases-loop-p l = left l.rest

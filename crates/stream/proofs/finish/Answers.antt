@@ -1,6 +1,6 @@
--- A carried line is answered as the whole line is, by `cut_line`. Assumes nothing.
+-- A carried line is answered as the whole line is, by `cut_line`.
 use Rattle.stream.proofs.StreamLaws.{cut_line}
 use Rattle.stream.proofs.finish.Goals as goal
 
-pub returns : goal.returns
-returns c = rw (c.add-end.ensures.whole, cut_line) at c.answer-2.ensures
+pub returns-clause-replied : goal.returns-clause-replied
+returns-clause-replied c = rw (c.as_slice.ensures.value, c.add.ensures, cut_line) at c.answer-behind.ensures.replied

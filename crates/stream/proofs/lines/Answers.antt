@@ -1,15 +1,24 @@
--- The loop's invariant is `Passing`. Assumes nothing.
-use Rattle.std.proofs.Common.{refl, arith, rules}
-use Rattle.stream.proofs.PassingLaws.{begins, answered, finished}
+-- A byte more is passed by, or ends a line.
+use Rattle.std.proofs.Common.{refl}
+use Rattle.stream.proofs.PassingLaws.{same_on, passed_by, answered, finished}
 use Rattle.stream.proofs.lines.Goals as goal
-
-pub loop-end-init : goal.loop-end-init
-loop-end-init c =
-    let a = c.args in
-    begins a.block.now a.start _ a.carry.now a.out.now c.line_end-end.ensures c.requires.carried_bound c.requires.room_for_answers
+use Rattle.stream.proofs.lines.Goals.{then-block-end-eq10, else-block-end-eq10}
 
 pub loop-end-preserved : goal.loop-end-preserved
-loop-end-preserved c = answered c.loop-end.invariant (omega arith) c.finish-state.ensures c.line_end-end-in-loop-end.ensures (search rules)
+loop-end-preserved c =
+    let held = c.loop-end.invariant in
+    elim c.if-block-end-eq10.branch [
+      | then-block-end-eq10 w ↦
+          let did = w.finish-waiting in
+          rw (w.desk-is, w.carry-is, w.out-is, w.waiting-is, w.from-is, did.ensures.empty)
+          (record {
+            same = same_on held.same did.ensures.same;
+            passing = answered held.passing c.loop-end-test.true w.if-block-end-eq10.true did.ensures.replied did.auto.out;
+          })
+      | else-block-end-eq10 w ↦
+          rw (w.desk-is, w.carry-is, w.out-is, w.waiting-is, w.from-is)
+          (record { same = held.same; passing = passed_by held.passing w.if-block-end-eq10.false })
+    ]
 
-pub returns : goal.returns
-returns c = finished c.loop-end.invariant (λ more. omega arith) refl refl refl c.add.ensures
+pub returns-clause-worked : goal.returns-clause-worked
+returns-clause-worked c = finished c.loop-end.invariant.passing c.loop-end-test.false refl c.add.ensures

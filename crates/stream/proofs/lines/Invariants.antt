@@ -1,17 +1,13 @@
--- A line begins at `from`, the next line feed or the block's end is at `end`, and what is written so far with what the rest of the block does is what the
--- whole block does. Assumes nothing.
-use Rattle.std.proofs.Common.{◌-◌, length, take}
-use Rattle.tables.specs.Tables.{lent}
+-- A line begins at `from`, no line feed stands between it and `end`, and what is written so far with what the rest of the block does is what the whole
+-- block does.
+use Rattle.session.specs.Parts.{book_on, SameDesk}
 use Rattle.stream.specs.Stream.{passed}
-use Rattle.replying.specs.Replied.{held}
 use Rattle.stream.proofs.PassingLaws.{Passing}
 use Rattle.stream.proofs.lines.Given as goal
 
 abbrev pub invariant-loop-end : goal.invariant-loop-end
 invariant-loop-end l =
-    Passing l.block
-    (passed (held l.initial.state (lent l.initial.links l.initial.rules l.initial.entries l.initial.tally l.initial.disputes)) (take l.initial.state.carried l.initial.carry) l.block)
-    l.initial.state.waiting l.initial.out l.state (lent l.links l.rules l.entries l.tally l.disputes) l.carry l.out l.from l.end
-
-abbrev pub decreases-loop-end : goal.decreases-loop-end
-decreases-loop-end l = length l.block - l.from
+    record {
+      same : SameDesk l.initial.desk l.desk;
+      passing : Passing l.block (passed (book_on l.initial.desk) l.initial.carry.items l.block) l.start l.initial.out (book_on l.desk) l.carry.items l.out l.waiting l.from l.end;
+    }

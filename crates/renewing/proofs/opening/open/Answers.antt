@@ -1,18 +1,14 @@
 -- `renewing::opening::open` meets its contract: the clearing leaves zeros, by `open_done`. Assumes nothing.
 use mathlib.Core.Path.{sym, ◌∙◌}
-use Rattle.tables.specs.Tables.{Tables, lent}
+use Rattle.books.specs.Lent.{tables_of}
 use Rattle.renewing.proofs.OpenLaws.{open_done, open_refused}
 use Rattle.renewing.proofs.opening.open.Goals as goal
 
-pub returns-then-shaped : goal.returns-then-shaped
-returns-then-shaped c =
-    let a = c.args in
-    let t : Tables = lent a.links.now a.rules.now a.entries.now a.tally.now a.disputes.now in
-    open_done _ _ t (sym c.shape-shaped.ensures ∙ c.if-shaped.true)
-    c.clear_bytes.ensures c.clear.ensures c.clear-then-shaped.ensures c.clear_tally.ensures c.clear-then-shaped-2.ensures
+pub returns-then-not-is_shaped-clause-outcome : goal.returns-then-not-is_shaped-clause-outcome
+returns-then-not-is_shaped-clause-outcome c = open_refused _ _ (tables_of c.args.book.now) (sym c.is_shaped.ensures ∙ c.if-not-is_shaped.true)
 
-pub returns-else-shaped : goal.returns-else-shaped
-returns-else-shaped c =
-    let a = c.args in
-    let t : Tables = lent a.links.now a.rules.now a.entries.now a.tally.now a.disputes.now in
-    open_refused _ _ t (sym c.shape-shaped.ensures ∙ c.if-shaped.false)
+pub returns-clause-outcome : goal.returns-clause-outcome
+returns-clause-outcome c =
+    open_done _ _ (tables_of c.args.book.now) (sym c.is_shaped.ensures ∙ c.if-not-is_shaped.false)
+    (c.fill.ensures.after λ _ is. is) (c.fill-2.ensures.after λ _ is. is) (c.fill-3.ensures.after λ _ is. is)
+    (c.fill-4.ensures.after λ _ is. is) (c.fill-5.ensures.after λ _ is. is)

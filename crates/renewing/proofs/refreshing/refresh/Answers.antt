@@ -1,44 +1,7 @@
--- `renewing::refreshing::refresh` meets its contract: where the links have no fault every entry is settled. Assumes nothing.
-use mathlib.Core.Path.{◌≡◌, refl, sym, ◌∙◌}
-use mathlib.Core.Bool.{true}
-use Rattle.tables.specs.Tables.{Tables, lent, shaped}
-use Rattle.relation.proofs.Zeros.{blank_zeros}
-use Rattle.settling.proofs.WholeLaws.{settle_ready}
-use Rattle.renewing.proofs.RefreshLaws.{refresh_done, refresh_refused, refresh_unsound}
+-- `renewing::refreshing::refresh` meets its contract: a refused one leaves the tables. Assumes nothing.
+use Rattle.tables.proofs.CallLaws.{refused_refresh}
+use Rattle.tables.proofs.ReplyLaws.{kept_at_err}
 use Rattle.renewing.proofs.refreshing.refresh.Goals as goal
 
-pub returns-then-not-shaped : goal.returns-then-not-shaped
-returns-then-not-shaped c =
-    let a = c.args in
-    let t : Tables = lent a.links.now a.rules.now a.entries.now a.tally.now a.disputes.now in
-    refresh_refused _ _ t (sym c.shape-shaped.ensures ∙ c.if-not-shaped.true)
-
-pub examine_links-linked-requires : goal.examine_links-linked-requires
-examine_links-linked-requires c =
-    let a = c.args in
-    let t : Tables = lent a.links.now a.rules.now a.entries.now a.tally.now a.disputes.now in
-    let is-shaped : shaped a.n a.m t ≡ true = sym c.shape-shaped.ensures ∙ c.if-not-shaped.false in
-    let r = settle_ready _ _ t is-shaped t.entries refl refl in
-    (r.0.kinds, r.1, blank_zeros 256 refl, refl, blank_zeros 256 refl)
-
-pub returns-then-not-linked : goal.returns-then-not-linked
-returns-then-not-linked c =
-    let a = c.args in
-    let t : Tables = lent a.links.now a.rules.now a.entries.now a.tally.now a.disputes.now in
-    let is-shaped : shaped a.n a.m t ≡ true = sym c.shape-shaped.ensures ∙ c.if-not-shaped.false in
-    refresh_unsound _ _ t is-shaped (sym c.examine_links-linked.ensures.answer ∙ c.if-not-linked.true)
-
-pub settle_all-count-requires : goal.settle_all-count-requires
-settle_all-count-requires c =
-    let a = c.args in
-    let t : Tables = lent a.links.now a.rules.now a.entries.now a.tally.now a.disputes.now in
-    let is-shaped : shaped a.n a.m t ≡ true = sym c.shape-shaped.ensures ∙ c.if-not-shaped.false in
-    let r = settle_ready _ _ t is-shaped _ refl refl in
-    (r.0, c.examine_links-linked.ensures.arranged c.if-not-linked.false, r.2, r.3)
-
-pub returns : goal.returns
-returns c =
-    let a = c.args in
-    let t : Tables = lent a.links.now a.rules.now a.entries.now a.tally.now a.disputes.now in
-    let is-shaped : shaped a.n a.m t ≡ true = sym c.shape-shaped.ensures ∙ c.if-not-shaped.false in
-    refresh_done _ _ t is-shaped c.examine_links-linked.ensures c.if-not-linked.false c.settle_all-count.ensures
+pub returns-clause-refused : goal.returns-clause-refused
+returns-clause-refused c = kept_at_err _ _ _ _ c.refresh_tables.ensures (refused_refresh _ _ _)

@@ -4,4 +4,4 @@ use Rattle.resettling.proofs.ResettleLaws.{untouched_stops}
 use Rattle.resettling.proofs.resettling.resettle_rule.Goals as goal
 
 pub resettle-requires-clause-untouched : goal.resettle-requires-clause-untouched
-resettle-requires-clause-untouched c = untouched_stops _ _ _ _ _ _ _ _ _ _ (λ k h. sym (c.own_rules.ensures.at k h)) c.requires.untouched
+resettle-requires-clause-untouched c = untouched_stops _ _ _ _ _ _ _ _ _ _ (λ k h. sym (c.own_rules-stops.ensures.at k h)) c.requires.untouched

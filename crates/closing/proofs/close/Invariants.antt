@@ -1,6 +1,0 @@
--- `closing::close` meets its contract. The loop's invariant: the rows are closed over chains through kinds below k. Assumes nothing.
-use Rattle.closing.specs.Closed.{Closed}
-use Rattle.closing.proofs.close.Given as goal
-
-abbrev pub invariant-loop-k : goal.invariant-loop-k
-invariant-loop-k l = Closed l.n l.k l.initial.rows l.rows

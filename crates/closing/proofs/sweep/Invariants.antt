@@ -1,6 +1,0 @@
--- `closing::sweep` meets its contract. The loop's invariant: the stage has been through the rows below c. Assumes nothing.
-use Rattle.closing.specs.Closed.{Swept}
-use Rattle.closing.proofs.sweep.Given as goal
-
-abbrev pub invariant-loop-c : goal.invariant-loop-c
-invariant-loop-c l = Swept l.k l.c l.initial.rows l.rows

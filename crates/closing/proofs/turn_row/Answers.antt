@@ -1,6 +1,0 @@
--- `closing::turn_row` meets its contract, by `row_turned`. Assumes nothing.
-use Rattle.closing.proofs.Turning.{row_turned}
-use Rattle.closing.proofs.turn_row.Goals as goal
-
-pub returns : goal.returns
-returns c = row_turned _ _ c.turn_word.ensures c.turn_word-2.ensures

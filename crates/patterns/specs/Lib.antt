@@ -1,4 +1,0 @@
--- Decimal numbers, and lines that differ only in their numbers.
-pub mod Bytes
-pub mod Decimal
-pub mod Pattern

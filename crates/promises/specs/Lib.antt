@@ -1,0 +1,4 @@
+pub mod Books
+pub mod Calls
+pub mod Lookups
+pub mod Text

@@ -1,6 +1,0 @@
--- `renewing::opening::clear_bytes` meets its contract: the places passed are 0, by `Cleared`. Assumes nothing.
-use Rattle.counting.proofs.Clearing.{Cleared}
-use Rattle.renewing.proofs.opening.clear_bytes.Given as goal
-
-abbrev pub invariant-loop-i : goal.invariant-loop-i
-invariant-loop-i l = Cleared l.initial.bytes l.i-end l.bytes l.i

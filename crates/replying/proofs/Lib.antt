@@ -1,2 +1,0 @@
--- What the proof of `answer` and those of the stream use.
-pub mod ShortLaws

@@ -1,2 +1,0 @@
--- What the proofs of other crates use.
-pub mod StateLaws

@@ -1,8 +1,0 @@
--- `stores::store_shape` meets its contract: its tests are those of `stored`. Assumes nothing.
-use Rattle.std.proofs.Common.{refl}
-use Rattle.stores.specs.Store.{stored}
-use Rattle.stores.proofs.store_shape.Goals as goal
-
-pub returns : goal.returns
-unfolding stored
-returns c = refl
