@@ -1,5 +1,6 @@
--- What is promised of a book and its store after any list of calls since the book was just opened: any of the twelve calls, lists of edits, saves and returns
--- among them, in any number and order, with any arguments, refused ones too (docs/SCOPE.md, "Two books, any calls"). The store may hold anything.
+-- What is promised of a book and its store after any list of calls, of the last two on any book, and otherwise on one just opened: any of the twelve calls, lists of edits, saves and returns
+-- among them, in any number and order, with any arguments, refused ones too (docs/SCOPE.md, "Two books, any calls"). The store may hold anything, but for
+-- ReturnNever5.
 --     Opens, just_opened, tables_after    an open of n and m is accepted; the book that it leaves, with a store; the tables after a list of calls on it
 --     BooksAgree          two books of the same size: where links and rules agree, entries and dispute counts do
 --     StaysSound          the book is sound; StaysCounted: each dispute count is the number of kinds with a dispute entry

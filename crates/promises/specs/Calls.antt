@@ -1,7 +1,8 @@
 -- What is promised of one call on any tables t of a book (docs/SCOPE.md, "The calls" and "What an edit can touch").
 --     AddRuleEdits, TakeRuleEdits, AddLinkEdits, TakeLinkEdits    an accepted edit changes its one place, and what follows from it
 --     RefreshRenews                  an accepted refresh leaves links, rules and tally, and sound tables
---     FindSound, FindNever10         on sound tables find gives the lookup, and is not refused by 10; found: what it gives for a lookup
+--     FindSound                      on sound tables find gives the lookup; found: what it gives for a lookup
+--     FindNever10                    on sound tables, of any kind and mark, find is not refused by 10
 --     LaneSound                      so does a lane's find, on the same tables in bytes
 --     ListWhole, ListStopped         a list has made the edit of each record, or of those before the one at which it stopped
 --     InspectSound                   inspect answers sound exactly if the tables are
@@ -58,8 +59,7 @@ FindSound = (n m : ℕ) (t : Tables) (kind mark : ℕ) → shaped n m t ≡ true
     → (calls.find n m t kind mark).reply ≡ given (found (λ o. get_or t.rules (o * m + mark) 0) (lookup n (up_of n t.links) (own_of m t.rules mark) kind))
 
 abbrev pub FindNever10 : Type 0
-FindNever10 = (n m : ℕ) (t : Tables) (kind mark : ℕ) → shaped n m t ≡ true → kind < n → mark < m → sound n m t ≡ true
-    → (calls.find n m t kind mark).reply ≢ refused 10
+FindNever10 = (n m : ℕ) (t : Tables) (kind mark : ℕ) → sound n m t ≡ true → (calls.find n m t kind mark).reply ≢ refused 10
 
 -- the tables are lent in bytes, and sound are those that the bytes spell
 abbrev pub LaneSound : Type 0
@@ -75,7 +75,7 @@ ListWhole = (n m : ℕ) (t : Tables) (caller : ℕ) (records : List Edit) (accep
     → let o = make_list n m t caller records in o.reply ≡ given (whole accepted changed)
     → (accepted ≡ length records) × Steps n m caller records t changed o.tables
 
--- there are fewer, and the edit of the next record, on the tables that the list leaves, is refused by the number
+-- fewer edits were made than there are records, and the edit of the next record, on the tables that the list leaves, is refused by the number
 abbrev pub ListStopped : Type 0
 ListStopped = (n m : ℕ) (t : Tables) (caller : ℕ) (records : List Edit) (accepted changed number : ℕ)
     → let o = make_list n m t caller records in o.reply ≡ given (stopped accepted changed number)

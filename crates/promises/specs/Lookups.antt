@@ -1,11 +1,13 @@
 -- What is promised of the lookup, for every number n of kinds, all links `up` and all own rules `own` of one mark (docs/SCOPE.md, "Lookup").
 --     ChainIsAbove       the test `above` is the chain of links
 --     SeenAndLeft        the tests `seen` and `left` are what is seen and what is left
---     OwnRuleWins        an own rule wins at its own kind
 --     LookupMeansLeft    none, a rule and a dispute exactly as the kinds left have it; MeansLeft: of one kind
+-- Where no kind is above itself (Acyclic):
+--     OwnRuleWins        an own rule wins at its own kind
 --     DisputeIsAt        where a dispute is; IsAt: of one kind, by its Parent
 --     SameKindsLeft      a kind disputed at X has the same kinds left as X
 --     LookupIsUnique     the lookup solves its equation, and nothing else does; Solves
+-- Of any number:
 --     EntryIsItsLookup   every number is the entry of one lookup
 -- Assumes nothing.
 use Rattle.std.specs.Prelude.{◌≡◌, ◌≢◌, ◌↔◌, Bool, true, ℕ, ◌<◌}
@@ -20,7 +22,7 @@ use Rattle.inheritance.specs.Lookup.{Seen, seen, Left, left, Two, inherit, looku
 abbrev pub ChainIsAbove : Type 0
 ChainIsAbove = (n : ℕ) (up : ℕ → ℕ → Bool) (c p : ℕ) → (Chain n up c p → above n up c p ≡ true) × (p < n → above n up c p ≡ true → Chain n up c p)
 
--- a test passes for a rule kind o of the book exactly where o is seen from c, and where o is left at c
+-- a test passes for a kind o of the book exactly where o is seen from c, and, c being one too, where o is left at c
 abbrev pub SeenAndLeft : Type 0
 SeenAndLeft = (n : ℕ) (up : ℕ → ℕ → Bool) (own : ℕ → Bool) (c o : ℕ) → o < n
     → ((seen n up own c o ≡ true) ↔ Seen n up own c o) × (c < n → (left n up own c o ≡ true) ↔ Left n up own c o)
@@ -62,8 +64,10 @@ abbrev pub LookupIsUnique : Type 0
 LookupIsUnique = (n : ℕ) (up : ℕ → ℕ → Bool) (own : ℕ → Bool) → Acyclic n up
     → Solves n up own (lookup n up own) × ((v : ℕ → Lookup) → Solves n up own v → (c : ℕ) → c < n → v c ≡ lookup n up own c)
 
--- the lookup that a number stands for has that number as its entry, and the entry of a rule of a kind below 256, or of a dispute, stands for that lookup
+-- the lookup that a number stands for has that number as its entry, and the entry of none, of a rule of a kind below 256, or of a dispute, stands for that
+-- lookup
 pub record EntryIsItsLookup : Type 0 where
   pub one_lookup : (e : ℕ) → entry_of (lookup_of e) ≡ e
+  pub of_none : lookup_of (entry_of None) ≡ None
   pub of_rule : (k : ℕ) → k < 256 → lookup_of (entry_of (Rule (kind k))) ≡ Rule (kind k)
   pub of_dispute : (k : ℕ) → lookup_of (entry_of (Dispute (kind k))) ≡ Dispute (kind k)

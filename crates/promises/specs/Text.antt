@@ -49,6 +49,7 @@ ProgramAlone = (caller : ℕ) → caller ≢ program → (lines : List (List ℕ
 
 -- ---- forms
 
+-- s is one of the shapes
 pub data OneOf (s : Shape) : List Shape → Type 0 where
   first : {rest : List Shape} → OneOf s (s ∷ rest)
   later : {r : Shape} {rest : List Shape} → OneOf s rest → OneOf s (r ∷ rest)

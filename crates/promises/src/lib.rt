@@ -22,7 +22,7 @@ pub fn seen_and_left()
     ensures { SeenAndLeft }
 {}
 
-/// An own rule wins at its own kind.
+/// Where no kind is above itself, an own rule wins at its own kind.
 pub fn own_rule_wins()
     ensures { OwnRuleWins }
 {}
@@ -32,17 +32,19 @@ pub fn lookup_means_left()
     ensures { LookupMeansLeft }
 {}
 
-/// A dispute is at X if every direct parent whose lookup is not none has the dispute at X, and otherwise at the kind itself.
+/// Where no kind is above itself, a dispute is at X if every direct parent whose lookup is not none has the dispute at X, and otherwise at the kind
+/// itself.
 pub fn dispute_is_at()
     ensures { DisputeIsAt }
 {}
 
-/// A kind disputed at X has the same kinds left as X.
+/// Where no kind is above itself, a kind disputed at X has the same kinds left as X.
 pub fn same_kinds_left()
     ensures { SameKindsLeft }
 {}
 
-/// The lookup solves the equation by which it follows from those of the direct parents and the kinds left, and nothing else does.
+/// Where no kind is above itself, the lookup solves the equation by which it follows from those of the direct parents and the kinds left, and nothing
+/// else does.
 pub fn lookup_is_unique()
     ensures { LookupIsUnique }
 {}
@@ -137,7 +139,7 @@ pub fn find_sound()
     ensures { FindSound }
 {}
 
-/// On sound tables find is not refused by 10.
+/// On sound tables find is not refused by 10, of whatever kind and mark it is asked.
 pub fn find_never_damaged()
     ensures { FindNever10 }
 {}
