@@ -1,5 +1,6 @@
 // The kinds of a book put in order along their links, each before those above it, by going up the links. `arrange` says of
 // every kind where it stands and which places it reaches.
+// Numbers change width by `as`: each fits, and what `from` or `try_from` answers would have to be told to each goal.
 #![tactic(auto)]
 
 ghost use Rattle.std.specs.Prelude.{◌≡◌, ◌&&◌, ◌+◌, ◌-◌, ◌<◌, ◌≤◌, eqb, length, set};
@@ -72,18 +73,52 @@ fn climb(
     }
 }
 
-// The kinds below n are put in an order in which each stands before its parents, and row c of `reach`, which was blank, gets
-// the places of kind c and of those above it. Whether there is such an order: no kind is above itself.
-pub fn arrange(rows: &Relation, n: usize, order: &mut [u8; 128], reach: &mut Relation) -> bool
-    requires { (n ≤ 128) × (length order.old ≡ 128) × (Blank reach.old) }
-    ensures { Arrangement n rows.now order.new reach.new result }
-{
-    let mut states = [State::New; 128];
-    let mut k = 0;
-    for c in 0..n {
-        if states[c] == State::New {
-            k = climb(rows, n, c, k, &mut states, order, reach);
+/// The kinds of a book in order: the links as rows, the kind at each place, and in row c of `reach` the places of kind c and of those
+/// above it.
+#[derive(Drop)]
+pub struct Order {
+    pub rows: Relation,
+    pub kinds: [u8; 128],
+    pub reach: Relation,
+    ghost places: { length kinds ≡ 128 },
+}
+
+impl Order {
+    /// No links, and no kind in order.
+    pub fn empty() -> Order
+        ensures rows { Blank result.rows }
+        ensures reach { Blank result.reach }
+    {
+        Order {
+            rows: Relation::empty(),
+            kinds: [0u8; 128],
+            reach: Relation::empty(),
         }
     }
-    k == n
+
+    /// The kinds below n are put in an order in which each stands before its parents, and row c of `reach`, which was blank, gets
+    /// the places of kind c and of those above it. Whether there is such an order: no kind is above itself.
+    pub fn arrange(&mut self, n: usize) -> bool
+        requires { (n ≤ 128) × (Blank self.old.reach) }
+        ensures rows { self.new.rows ≡ self.old.rows }
+        ensures arranged { Arrangement n self.new.rows self.new.kinds self.new.reach result }
+    {
+        let mut states = [State::New; 128];
+        let mut k = 0;
+        // by number: c names the kind in its state and in the rows
+        for c in 0..n {
+            if states[c] == State::New {
+                k = climb(
+                    &self.rows,
+                    n,
+                    c,
+                    k,
+                    &mut states,
+                    &mut self.kinds,
+                    &mut self.reach,
+                );
+            }
+        }
+        k == n
+    }
 }

@@ -1,4 +1,5 @@
-// What calls ask of their kinds and marks: refusals 2, 3 and 4.
+// What calls ask of their kinds and marks: refusals 2, 3 and 4. n and m may be any numbers here and in what has not passed refusal 1, and
+// are then no `Size`.
 ghost use Rattle.std.specs.Prelude.{◌≡◌};
 ghost use Rattle.inheritance.specs.Checked.{kind_below, mark_below};
 ghost use Rattle.books.specs.Ask.{asked_at, bare, asked_rule, asked_link};

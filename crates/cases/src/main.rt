@@ -3,7 +3,6 @@
 
 use arrayvec::ArrayString;
 use session::Desk;
-use tables::TALLIES;
 
 // The lines of the session.
 const LINES: &str = "(open 4 2)\n\
@@ -36,18 +35,7 @@ fn show<R: Print>(rt: &R, desk: &mut Desk, line: &str) {
 }
 
 fn main(rt: HostRuntime) {
-    let mut links = [0; 16384];
-    let mut rules = [0; 8192];
-    let mut entries = [0; 8192];
-    let mut tally = [0; TALLIES];
-    let mut disputes = [0; 64];
-    let mut desk = Desk::new(
-        &mut links,
-        &mut rules,
-        &mut entries,
-        &mut tally,
-        &mut disputes,
-    );
+    let mut desk = Desk::new();
     for line in LINES.lines() {
         show(&rt, &mut desk, line);
     }

@@ -1,19 +1,22 @@
 // Entries as code tests them: every entry is compared with one step of inheritance from the entries of its kind's parents, and
 // in the same pass the dispute entries are counted.
+// Numbers are narrowed by `as`: each fits, and `try_from` would add a refusal that cannot come.
 #![tactic(auto)]
 
 ghost use Rattle.std.specs.Prelude.{◌≡◌, ◌↔◌, ◌+◌, ◌*◌, ◌<◌, ◌≤◌, IsTrue, drop, get_or, length, replicate, take};
 ghost use Rattle.relation.specs.Bit.{bit};
 ghost use Rattle.tables.specs.Step.{kind_right, right};
 ghost use Rattle.tables.specs.Tables.{disputes_of, Sized};
-ghost use Rattle.deciding.specs.Deciding.{Prepared};
 ghost use Rattle.merging.specs.Merged.{merged, given};
+ghost use Rattle.ruling.specs.Ready.{Ready};
 ghost use Rattle.checking.specs.Checked.{Checked};
 
 use counting::count_entry;
 use deciding::decide_row;
 use merging::{merge, merge_parents, own};
 use relation::Relation;
+use ruling::Prepared;
+use tables::{Marks, Size};
 
 // Whether the entries of kind c are those of the row.
 fn row_right(m: usize, entries: &[u16], c: usize, out: &[u16; 64]) -> bool
@@ -44,6 +47,7 @@ fn check(
 {
     let kind = c as u16;
     let mut all = true;
+    // by number: j is the place in six rows, of which two are written
     for j in 0..m {
         let e = own(kind, rules[c * m + j], merge(kind, x[i + j], y[k + j]));
         let entry = entries[c * m + j];
@@ -58,18 +62,19 @@ fn check(
 // kinds have; the row of one parent, or of all merged, is given twice, since a row merged with itself is that row.
 fn check_row(
     rows: &Relation,
-    n: usize,
-    m: usize,
+    size: Size,
     rules: &[u16],
     entries: &[u16],
     c: usize,
     out: &mut [u16; 64],
     counts: &mut [u16],
 ) -> bool
-    requires { (Sized n m rules.now entries.now) × (c < n) × (length out.old ≡ 64) × (counts.old ≡ disputes_of c m entries.now) }
-    ensures { (Checked m c rules.now entries.now (given m (bit rows.now) entries.now c n) out.new result)
-        × (counts.new ≡ disputes_of (c + 1) m entries.now) }
+    requires { (Sized size.n size.m rules.now entries.now) × (c < size.n) × (length out.old ≡ 64) × (counts.old ≡ disputes_of c size.m entries.now) }
+    ensures { (Checked size.m c rules.now entries.now (given size.m (bit rows.now) entries.now c size.n) out.new result)
+        × (counts.new ≡ disputes_of (c + 1) size.m entries.now) }
 {
+    let n = size.n;
+    let m = size.m;
     let mut rest = rows.row(c);
     if let Some(first) = rest.take_first(n) {
         let Some(second) = rest.take_first(n) else {
@@ -102,60 +107,60 @@ fn check_row(
         }
     }
     let mut all = [0u16; 64];
-    merge_parents(rows, n, m, 0, m, entries, c, &mut all);
+    let marks = Marks { size, lo: 0, hi: m };
+    merge_parents(rows, marks, entries, c, &mut all);
     check(c, m, rules, &all, 0, &all, 0, entries, out, counts)
 }
 
 // Whether the entries of kind c are what its own rules, its parents' entries and the kinds left give. Its dispute entries are
 // counted in.
 fn kind_right(
-    rows: &Relation,
-    order: &[u8; 128],
-    reach: &Relation,
-    ruled: &Relation,
-    n: usize,
-    m: usize,
+    prepared: &Prepared,
+    size: Size,
     rules: &[u16],
     entries: &[u16],
     c: usize,
     out: &mut [u16; 64],
     counts: &mut [u16],
 ) -> bool
-    requires sized_and_prepared { (Sized n m rules.now entries.now) × (Prepared n m rows.now rules.now order.now reach.now ruled.now) }
-    requires kind_and_counts { (c < n) × (length out.old ≡ 64) × (counts.old ≡ disputes_of c m entries.now) }
-    ensures { (result ≡ kind_right n m (bit rows.now) rules.now entries.now c) × (length out.new ≡ 64)
-        × (counts.new ≡ disputes_of (c + 1) m entries.now) }
+    requires sized { Sized size.n size.m rules.now entries.now }
+    requires ready { Ready size.n size.m rules.now prepared.now }
+    requires kind_and_counts { (c < size.n) × (length out.old ≡ 64) × (counts.old ≡ disputes_of c size.m entries.now) }
+    ensures { (result ≡ kind_right size.n size.m (bit prepared.now.order.rows) rules.now entries.now c) × (length out.new ≡ 64)
+        × (counts.new ≡ disputes_of (c + 1) size.m entries.now) }
 {
-    if check_row(rows, n, m, rules, entries, c, out, counts) {
+    let order = &prepared.order;
+    if check_row(&order.rows, size, rules, entries, c, out, counts) {
         return true;
     }
-    decide_row(order, reach, ruled, 0, m, c, out);
-    row_right(m, entries, c, out)
+    let marks = Marks {
+        size,
+        lo: 0,
+        hi: size.m,
+    };
+    decide_row(prepared, marks, c, out);
+    row_right(size.m, entries, c, out)
 }
 
-// Whether every entry is what its kind's own rules, its parents' entries and the kinds left give. The counts, which are 0, become
-// those of the dispute entries.
+/// Whether every entry is what its kind's own rules, its parents' entries and the kinds left give. The counts, which are 0, become
+/// those of the dispute entries.
 pub fn entries_right(
-    rows: &Relation,
-    order: &[u8; 128],
-    reach: &Relation,
-    ruled: &Relation,
-    n: usize,
-    m: usize,
+    prepared: &Prepared,
+    size: Size,
     rules: &[u16],
     entries: &[u16],
     counts: &mut [u16],
 ) -> bool
-    requires { (Sized n m rules.now entries.now) × (Prepared n m rows.now rules.now order.now reach.now ruled.now) × (counts.old ≡ replicate m 0) }
-    ensures { (result ≡ right n m (bit rows.now) rules.now entries.now) × (counts.new ≡ disputes_of n m entries.now) }
+    requires sized { Sized size.n size.m rules.now entries.now }
+    requires ready { Ready size.n size.m rules.now prepared.now }
+    requires counts { counts.old ≡ replicate size.m 0 }
+    ensures { (result ≡ right size.n size.m (bit prepared.now.order.rows) rules.now entries.now) × (counts.new ≡ disputes_of size.n size.m entries.now) }
 {
     let mut out = [0u16; 64];
     let mut all = true;
-    for c in 0..n {
-        all = all
-            & kind_right(
-                rows, order, reach, ruled, n, m, rules, entries, c, &mut out, counts,
-            );
+    // by number: c names the kind in the rows of four tables
+    for c in 0..size.n {
+        all = all & kind_right(prepared, size, rules, entries, c, &mut out, counts);
     }
     all
 }

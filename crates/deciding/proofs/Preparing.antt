@@ -26,7 +26,8 @@ use Rattle.relation.specs.First.{First, Found}
 use Rattle.relation.proofs.Bools.{both_eqb}
 use Rattle.tables.specs.Tables.{own_of}
 use Rattle.tables.proofs.TableLaws.{place_split}
-use Rattle.deciding.specs.Deciding.{Prepared}
+use Rattle.ruling.specs.declared.Prepared.{Prepared}
+use Rattle.ruling.specs.Ready.{Ready}
 use Rattle.deciding.proofs.DecidingLaws.{reach_upto, place_in}
 
 pub kind_place : (n : ℕ) (rows : Relation) (order : List ℕ) (reach : Relation) → Arranged n rows order reach → n ≤ 128 → (c : ℕ) → c < n → {i : ℕ} → First (bit reach c) 0 128 i
@@ -60,39 +61,39 @@ module _ (m : ℕ) (rules : List ℕ) (e mark handling : ℕ) (mark-in : mark < 
       elsewhere q = let same = place_split {k = c} {k' = e} hj mark-in q in ⊎_elim (λ ne. ne same.0) (λ ne. ne same.1) apart
 
   -- i is the place of e
-  module _ (n : ℕ) (size : length rules ≡ n * m) (rows : Relation) (order : List ℕ) (reach ruled new : Relation) (i : ℕ) (i<n : i < n) (at_i : get_or order i 0 ≡ e) (p : Prepared n m rows rules order reach ruled) where
+  module _ (n : ℕ) (size : length rules ≡ n * m) (d : Prepared) (new : Relation) (i : ℕ) (i<n : i < n) (at_i : get_or d.order.kinds i 0 ≡ e) (p : Ready n m rules d) where
     abbrev rules' : List ℕ
     rules' = set rules (e * m + mark) handling
 
-    own_set : own_of m rules' mark (get_or order i 0) ≡ not (eqb handling 0)
+    own_set : own_of m rules' mark (get_or d.order.kinds i 0) ≡ not (eqb handling 0)
     own_set =
         let e<n : e < n = let k = p.arranged.kinds i i<n in omega arith in
         ap (own_of m rules' mark) at_i ∙ ap (λ (x : ℕ). not (eqb x 0)) (get_or-set_same rules (e * m + mark) handling 0 (omega (arith, digits_lt e<n mark-in)))
 
     -- the row of another mark, and another place
-    kept : (j q : ℕ) → (eqb j mark && eqb q i) ≡ false → (ltb q n && (ltb j m && own_of m rules j (get_or order q 0))) ≡ (ltb q n && (ltb j m && own_of m rules' j (get_or order q 0)))
+    kept : (j q : ℕ) → (eqb j mark && eqb q i) ≡ false → (ltb q n && (ltb j m && own_of m rules j (get_or d.order.kinds q 0))) ≡ (ltb q n && (ltb j m && own_of m rules' j (get_or d.order.kinds q 0)))
     kept j q off = go (ltb q n) refl (ltb j m) refl
       where
-        apart : q < n → (get_or order q 0 ≢ e) ⊎ (j ≢ mark)
+        apart : q < n → (get_or d.order.kinds q 0 ≢ e) ⊎ (j ≢ mark)
         apart l = by_bool (eqb q i) refl (eqb j mark) refl
           where
-            by_bool : (s : Bool) → eqb q i ≡ s → (t : Bool) → eqb j mark ≡ t → (get_or order q 0 ≢ e) ⊎ (j ≢ mark)
+            by_bool : (s : Bool) → eqb q i ≡ s → (t : Bool) → eqb j mark ≡ t → (get_or d.order.kinds q 0 ≢ e) ⊎ (j ≢ mark)
             by_bool s es false et = inr (λ same. true≢false (sym (eq-eqb j mark same) ∙ et))
             by_bool false es true et = inl (λ same. true≢false (sym (eq-eqb q i (p.arranged.once q i l i<n (same ∙ sym at_i))) ∙ es))
             by_bool true es true et = absurd (true≢false (sym (rw (et, es) refl) ∙ off))
 
-        go : (s : Bool) → ltb q n ≡ s → (t : Bool) → ltb j m ≡ t → (s && (t && own_of m rules j (get_or order q 0))) ≡ (s && (t && own_of m rules' j (get_or order q 0)))
+        go : (s : Bool) → ltb q n ≡ s → (t : Bool) → ltb j m ≡ t → (s && (t && own_of m rules j (get_or d.order.kinds q 0))) ≡ (s && (t && own_of m rules' j (get_or d.order.kinds q 0)))
         go false es t et = refl
         go true es false et = refl
-        go true es true et = own_kept j (get_or order q 0) (ltb-true j m et) (apart (ltb-true q n es))
+        go true es true et = own_kept j (get_or d.order.kinds q 0) (ltb-true j m et) (apart (ltb-true q n es))
 
     -- whatever happens to that bit alone
     pub prepared_set : (f : Bool → Bool → Bool) → ((b : Bool) → f b false ≡ b) → ((b : Bool) → f b true ≡ not (eqb handling 0))
-        → ((d q : ℕ) → q < 128 → bit new d q ≡ f (bit ruled d q) (eqb d mark && eqb q i)) → Prepared n m rows rules' order reach new
+        → ((j q : ℕ) → q < 128 → bit new j q ≡ f (bit d.ruled j q) (eqb j mark && eqb q i)) → Ready n m rules' (record d { ruled = new })
     prepared_set f keeps sets bits = record { arranged = p.arranged; rule_kinds = record { bits = λ j q h. bits j q h ∙ go j q h (eqb j mark && eqb q i) refl } }
       where
-        go : (j q : ℕ) → q < 128 → (t : Bool) → (eqb j mark && eqb q i) ≡ t → f (bit ruled j q) t ≡ (ltb q n && (ltb j m && own_of m rules' j (get_or order q 0)))
-        go j q h false e = keeps (bit ruled j q) ∙ p.rule_kinds.bits j q h ∙ kept j q e
+        go : (j q : ℕ) → q < 128 → (t : Bool) → (eqb j mark && eqb q i) ≡ t → f (bit d.ruled j q) t ≡ (ltb q n && (ltb j m && own_of m rules' j (get_or d.order.kinds q 0)))
+        go j q h false e = keeps (bit d.ruled j q) ∙ p.rule_kinds.bits j q h ∙ kept j q e
         go j q h true e =
             let (same-mark, same_place) = both_eqb j mark q i e in
-            sets (bit ruled j q) ∙ rw (same-mark, same_place, lt-ltb i n i<n, lt-ltb mark m mark-in) (sym own_set)
+            sets (bit d.ruled j q) ∙ rw (same-mark, same_place, lt-ltb i n i<n, lt-ltb mark m mark-in) (sym own_set)

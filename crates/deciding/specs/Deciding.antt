@@ -1,9 +1,9 @@
 -- What the kinds left decide, as code finds it. The kinds stand in an order, and a kind is known by its place there.
---     Prepared            the order, the places of the kinds at or above each, and those of the rule kinds, for a book
 --     Held                the places that pass a test, as those in a row of reach, are those of kinds
 --     common, outside     the places in row c of reach that row j of ruled has too, and those of them that row o of reach has not
 --     Places              a set has the common places
 --     deciding            the first common place is that of a kind left; it is left alone if row o of reach has them all, where o is that kind
+--     decided_at          .. by what is prepared
 --     apart               an entry of kind c, where v is what is decided if the parents differ
 -- Assumes nothing.
 use Rattle.std.specs.Prelude.{◌≡◌, Bool, true, false, ◌&&◌, not, List, ℕ, zero, suc, ◌+◌, ◌<◌, eqb, ltb, get_or}
@@ -11,16 +11,11 @@ use Rattle.inheritance.specs.declared.Lookup.{Lookup}
 use Rattle.inheritance.specs.declared.Lookup.TheVariants.{None, Rule, Dispute}
 use Rattle.inheritance.specs.Checked.{kind}
 use Rattle.inheritance.specs.Lookup.{some_below}
-use Rattle.arranging.specs.Arranged.{Arranged}
 use Rattle.relation.specs.declared.KindSet.{KindSet}
 use Rattle.relation.specs.declared.Relation.{Relation}
 use Rattle.relation.specs.Bit.{bit, holds}
 use Rattle.inheritance.specs.Entry.{entry_of}
-use Rattle.ruling.specs.Ruling.{Ruled}
-
-pub record Prepared (n m : ℕ) (rows : Relation) (rules order : List ℕ) (reach ruled : Relation) : Type 0 where
-  pub arranged : Arranged n rows order reach
-  pub rule_kinds : Ruled n m rules order ruled
+use Rattle.ruling.specs.declared.Prepared.{Prepared}
 
 -- the places that pass a test are those of kinds
 abbrev pub Held : (order : List ℕ) → (ℕ → Bool) → Type 0
@@ -52,6 +47,10 @@ unfoldable pub deciding : (order : List ℕ) → (reach ruled : Relation) → �
 deciding order reach ruled c j =
     let i = first_below (common reach ruled c j) 128 in
     decision c i (get_or order i 0) (covered reach ruled c j (get_or order i 0))
+
+-- .. by what is prepared
+abbrev pub decided_at : Prepared → ℕ → ℕ → Lookup
+decided_at p c j = deciding p.order.kinds p.order.reach p.ruled c j
 
 unfoldable pub apart : ℕ → ℕ → Lookup → ℕ
 apart c e v = elim (eqb e (257 + c)) [ true ↦ entry_of v | false ↦ e ]

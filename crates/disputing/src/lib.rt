@@ -1,4 +1,5 @@
 // Parties: the two lowest kinds left at a kind whose entry is a dispute.
+// A `Size` is made by `as`: its numbers have to be known by computation, and `from` is a call.
 #![tactic(auto)]
 
 ghost use Rattle.std.specs.Prelude.{◌≡◌, List, ℕ, ◌*◌, length};
@@ -11,13 +12,12 @@ ghost use Rattle.disputing.specs.Parties.{parties_at};
 
 use books::Tables;
 use inheritance::{Kind, Mark};
-use relation::Relation;
-use tables::{Refusal, place};
+use ruling::Prepared;
+use tables::{Refusal, Size};
 
 // The answer at a kind and a mark of the book.
 fn answer(
-    n: u16,
-    m: u16,
+    size: Size,
     links: &[u8],
     rules: &[u16],
     entries: &[u16],
@@ -25,24 +25,18 @@ fn answer(
     k: Kind,
     j: Mark,
 ) -> Result<(Kind, Kind), Refusal>
-    requires { (Within n m rules.now entries.now k j) × (length links.now ≡ n * n) × (length disputes.now ≡ m) }
-    ensures { (tally : List ℕ) → replied_as kinds_of result ≡ (parties_at n m (lent links.now rules.now entries.now tally disputes.now) k.0 j.0).reply }
+    requires { (Within size.n size.m rules.now entries.now k j) × (length links.now ≡ size.n * size.n) × (length disputes.now ≡ size.m) }
+    ensures { (tally : List ℕ) → replied_as kinds_of result ≡ (parties_at size.n size.m (lent links.now rules.now entries.now tally disputes.now) k.0 j.0).reply }
 {
-    let mut rows = Relation::empty();
-    let mut order = [0u8; 128];
-    let mut reach = Relation::empty();
-    let mut ruled = Relation::empty();
-    let sound = soundness::examine(
-        n as usize, m as usize, links, rules, entries, disputes, &mut rows, &mut order, &mut reach,
-        &mut ruled,
-    );
+    let mut prepared = Prepared::empty();
+    let sound = soundness::examine(size, links, rules, entries, disputes, &mut prepared);
     if !sound {
         return Err(Refusal::Unsound);
     }
-    if entries[place(k, j, m)] < 257 {
+    if entries[size.place(k, j)] < 257 {
         return Err(Refusal::NoDispute);
     }
-    parting::left_pair(&order, &reach, &ruled, n as usize, k, j)
+    parting::left_pair(&prepared, size.n, k, j)
 }
 
 /// The lowest kind left at the kind, then the second lowest.
@@ -50,9 +44,12 @@ pub fn parties(tables: &Tables, kind: Kind, mark: Mark) -> Result<(Kind, Kind), 
     ensures { replied_as kinds_of result ≡ (parties tables.now.n tables.now.m (tables_read tables.now) kind.0 mark.0).reply }
 {
     let (k, j) = tables.ask_place(kind, mark)?;
+    let size = Size {
+        n: tables.n as usize,
+        m: tables.m as usize,
+    };
     answer(
-        tables.n,
-        tables.m,
+        size,
         tables.links,
         tables.rules,
         tables.entries,

@@ -21,7 +21,9 @@ fn handled(owner: Kind, handling: u16) -> Result<Found, Refusal>
     Ok(Found::Rule(owner, handling))
 }
 
-// The answer at a kind and a mark of the book. It tests the entry there, and no other part of the tables.
+// The answer at a kind and a mark of the book. It tests the entry there, and no other part of the tables. n is held against the numbers of
+// an entry, so n and m are no `Size`. The find of the line controllers has its own, which for speed does not decode the entry: one
+// function of both would decode it.
 fn answer(
     n: u16,
     m: u16,

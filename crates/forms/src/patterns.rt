@@ -1,4 +1,5 @@
 // A line held against a pattern: a line in which '#' stands for a number.
+// Numbers change width by `as`: each fits, and what `from` or `try_from` answers would have to be told to each goal.
 ghost use Rattle.std.specs.Prelude.{◌≡◌, ◌≤◌, ◌++◌, drop};
 ghost use Rattle.forms.specs.Decimal.{further, number_at, number_of};
 ghost use Rattle.forms.specs.Pattern.{slots, fits, match_of};
@@ -8,6 +9,7 @@ fn take_digits(line: &[u8], from: usize, start: u16) -> Option<(u16, usize)>
     ensures { number_of line.now result ≡ further start (drop from line.now) }
 {
     let mut value = u32::from(start);
+    // by number: the place is what is wanted
     for at in from..line.len() {
         let b = line[at];
         if !b.is_ascii_digit() {

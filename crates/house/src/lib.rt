@@ -1,4 +1,5 @@
-// The calls of a house for programs written in C: each answer is one number, and the tables are lent as numbers.
+// The calls of a house for programs written in C: each answer is one number, and the tables are lent as numbers. C lends them one by one, and
+// has a function for each call, so the exports take each table and some have the same body.
 #![tactic(auto)]
 
 ghost use Rattle.std.specs.Prelude.{◌≡◌};

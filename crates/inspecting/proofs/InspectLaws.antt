@@ -1,22 +1,22 @@
 -- A search for the lowest number that fails a test, and what inspect answers by it.
 --     lowest_none, lowest_is, lowest_same                `lowest`: where all pass, where one is known, and of tests that agree
---     Searching                                          every number below i passes: the invariant of a loop
---     searching_none, searching_more                     where the loop begins, and what a turn does
---     searching_found, searching_all                     the first number that fails is found; none is
+--     lowest_found, own_found, pair_found, byte_found    what a search answers that says of each number if it passes; one through a range from 0; one
+--                                                        through the pairs of two tables; one through the bytes of the links
+--     own_mapped                                         the fault that a kind in its own row is turned into
 --     part_length                                        the length of a part of a list of equal numbers
 --     places_fit                                         how many places there are
 --     inspect_refused, inspect_links, inspect_entries    what inspect answers, where the tables do not have their lengths, where the links have a
 --                                                        fault, and where they have none
 -- Assumes nothing.
-use mathlib.Core.Path.{◌≡◌, refl, sym, ◌∙◌, ap}
+use mathlib.Core.Path.{◌≡◌, refl, sym, ◌∙◌, ap, subst}
 use mathlib.Core.Logic.{by_cases}
 use mathlib.Core.Bool.{Bool, true, false, ◌&&◌, not, true≢false, false≢true}
 use mathlib.Core.List.{List}
-use Prim.Native.Nat.{ℕ, zero, suc, ◌+◌, ◌*◌, ◌<◌, ◌≤◌}
+use Prim.Native.Nat.{ℕ, zero, suc, ◌*◌, ◌<◌, ◌≤◌}
 use native.Mathlib.Nat.{mul-le-mul}
 use native.Mathlib.Decide.{dec_lt}
 use native.Mathlib.Omega.{arith}
-use lib.Dec.{eqb}
+use lib.Dec.{eqb, leb}
 use lib.ListN.{length, get_or, take, replicate, length-replicate}
 use Rattle.inheritance.specs.Above.{above}
 use Rattle.inheritance.proofs.AboveLaws.{above_same}
@@ -25,7 +25,8 @@ use Rattle.relation.specs.declared.Relation.{Relation}
 use Rattle.relation.specs.Closed.{Closed}
 use Rattle.loading.specs.Loaded.{Loaded}
 use Rattle.soundness.proofs.Soundness.{rows_links, part_replicate}
-use Rattle.tables.specs.Reply.{refused, given, Fault}
+use Rattle.tables.specs.Reply.{refused, given, Fault, fault_in}
+use Rattle.tables.specs.declared.Fault.{Fault as CodeFault}
 use Rattle.tables.specs.Tables.{Tables, shaped, up_of, entries_of, disputes_of, all_below, byte_right, bytes_right, kind_free, entry_right, count_right}
 use Rattle.tables.specs.Tables.{well_linked, links_right}
 use Rattle.tables.specs.Calls.{check, lowest, first_fault, fault_of, inspect}
@@ -33,8 +34,11 @@ use Rattle.tables.proofs.CallLaws.{Lowest, lowest_fails}
 use Rattle.tables.proofs.DisputeLaws.{disputes_at_mark}
 use Rattle.tables.proofs.ShapeLaws.{sized_facts}
 use Rattle.tables.proofs.SoundLaws.{entries_true}
-use Rattle.tables.proofs.TableLaws.{below_suc, below_true, below_same}
-use Rattle.inspecting.specs.Faults.{off_own_row, link_fault, same_at, entry_fault}
+use Rattle.tables.proofs.TableLaws.{below_true, below_same}
+use Rattle.std.specs.Prelude.{MatchOption, IsSomeAnd, Option, None, Some, zip}
+use Rattle.std.specs.List.{AllWithin, HoldsAt}
+use Rattle.std.proofs.lemmas.Slice.Zip.{length-zip, get_or-zip}
+use Rattle.inspecting.specs.Faults.{LowestFound, off_own_row, link_fault, same_at, entry_fault}
 
 -- ---- the lowest number that fails
 
@@ -76,25 +80,60 @@ lowest_same f g k same = go (all_below f k) refl
           first = λ j h. sym (same j (omega (arith, l.within))) ∙ l.first j h;
         }))
 
+all_true : (f : ℕ → Bool) (k : ℕ) → ((i : ℕ) → i < k → f i ≡ true) → all_below f k ≡ true
+all_true f k passes = go (all_below f k) refl
+  where
+    go : (b : Bool) → all_below f k ≡ b → b ≡ true
+    go true e = refl
+    go false e = let l = lowest_fails f k e in absurd (false≢true (sym l.fails ∙ passes _ l.within))
+
 -- ---- the search
 
-pub record Searching (f : ℕ → Bool) (k i : ℕ) : Type 0 where
-  pub within : i ≤ k
-  pub passed : all_below f i ≡ true
+-- what a search answers that says of each number if it passes
+lowest_found : (f : ℕ → Bool) (k : ℕ) (found : Option ℕ)
+    → MatchOption found ((i : ℕ) → i < k → f i ≡ true) (λ i. (i < k) × (f i ≡ false) × ((j : ℕ) → j < i → f j ≡ true)) → LowestFound f k found
+lowest_found f k None passes = all_true f k passes
+lowest_found f k (Some i) first =
+    (first.0, fails_below f k i first.0 first.1, lowest_is f k (record { within = first.0; fails = first.1; first = first.2 }))
 
-pub searching_none : (f : ℕ → Bool) (k : ℕ) → Searching f k 0
-unfolding all_below
-searching_none f k = record { within = omega arith; passed = refl }
+-- a search through a range from 0
+pub own_found : (f : ℕ → Bool) (k : ℕ) (found : Option ℕ)
+    → MatchOption found ((i : ℕ) → 0 ≤ i → i < k → f i ≡ true) (λ i. (0 ≤ i) × (i < k) × (f i ≡ false) × ((j : ℕ) → 0 ≤ j → j < i → f j ≡ true)) → LowestFound f k found
+own_found f k None passes = lowest_found f k None (λ i h. passes i (omega arith) h)
+own_found f k (Some i) first = lowest_found f k (Some i) (first.1, first.2, λ j h. first.3 j (omega arith) h)
 
-module _ {f : ℕ → Bool} {k i : ℕ} (s : Searching f k i) where
-  pub searching_more : i < k → f i ≡ true → Searching f k (i + 1)
-  searching_more h e = record { within = omega arith; passed = rw (below_suc, s.passed) e }
+-- a search through the pairs of two tables
+module _ (xs ys : List ℕ) (long : length ys ≡ length xs) where
+  pair_here : {b : Bool} {i : ℕ} → i < length (zip xs ys) → ((p : ℕ × ℕ) → eqb (get_or (zip xs ys) i p).0 (get_or (zip xs ys) i p).1 ≡ b) → (i < length xs) × (same_at xs ys i ≡ b)
+  pair_here {b} {i} h e =
+      let l : i < length xs = omega (arith, length-zip xs ys) in
+      (l, subst (λ (p : ℕ × ℕ). eqb p.0 p.1 ≡ b) (get_or-zip xs ys i (0, 0) l (omega arith)) (e (0, 0)))
 
-  pub searching_found : i < k → f i ≡ false → (i < k) × (all_below f k ≡ false) × (lowest f k ≡ i)
-  searching_found h e = (h, fails_below f k i h e, lowest_is f k (record { within = h; fails = e; first = below_true f i s.passed }))
+  pub pair_found : (found : Option ℕ)
+      → MatchOption found (AllWithin (λ (p : ℕ × ℕ). eqb p.0 p.1 ≡ true) (zip xs ys) 0 (length (zip xs ys)))
+      (λ i. (i < length (zip xs ys)) × HoldsAt (λ (p : ℕ × ℕ). eqb p.0 p.1 ≡ false) (zip xs ys) i × AllWithin (λ (p : ℕ × ℕ). eqb p.0 p.1 ≡ true) (zip xs ys) 0 i)
+      → LowestFound (same_at xs ys) (length xs) found
+  pair_found None passes = lowest_found _ _ None (λ i h. let l : i < length (zip xs ys) = omega (arith, length-zip xs ys) in (pair_here l (λ p. passes i p (omega arith) l)).1)
+  pair_found (Some i) first =
+      let here = pair_here first.0 first.1 in
+      lowest_found _ _ (Some i) (here.0, here.1, λ j h. (pair_here (omega (arith, first.0)) (λ p. first.2 j p (omega arith) h)).1)
 
-  pub searching_all : k ≤ i → all_below f k ≡ true
-  searching_all h = let end : i ≡ k = omega (arith, s.within) in rw end at s.passed
+-- a search through the bytes of the links
+pub byte_found : (links : List ℕ) (found : Option ℕ)
+    → MatchOption found (AllWithin (λ x. leb x 1 ≡ true) links 0 (length links))
+    (λ i. (i < length links) × HoldsAt (λ x. leb x 1 ≡ false) links i × AllWithin (λ x. leb x 1 ≡ true) links 0 i)
+    → LowestFound (byte_right links) (length links) found
+byte_found links None passes = lowest_found _ _ None (λ i h. passes i 0 (omega arith) h)
+byte_found links (Some i) first = lowest_found _ _ (Some i) (first.0, first.1 0, λ j h. first.2 j 0 (omega arith) h)
+
+-- where every byte is right, the answer is the first kind above itself, if there is one
+pub own_mapped : {P : ℕ → CodeFault → Type 0} (n : ℕ) (links : List ℕ) (closed : Relation) (own : Option ℕ) (answer : Option CodeFault)
+    → all_below (byte_right links) (length links) ≡ true → LowestFound (off_own_row closed) n own
+    → MatchOption own (answer ≡ None) (λ x. IsSomeAnd answer (P x)) → ((x : ℕ) (r : CodeFault) → x < n → P x r → fault_in (Some r) ≡ Fault.above_itself x)
+    → fault_in answer ≡ link_fault n links closed
+own_mapped n links closed None answer right free gives named = rw (gives, right, free) refl
+own_mapped n links closed (Some x) None right first gives named = absurd gives
+own_mapped n links closed (Some x) (Some r) right first gives named = rw (right, first.1, first.2) (named x r first.0 gives)
 
 -- ---- inspect
 

@@ -1,4 +1,6 @@
 // Inspect: the first fault of the tables.
+// Numbers are narrowed by `as`: each fits, and `try_from` would add a refusal that cannot come.
+// A `Size` is made by `as`: its numbers have to be known by computation, and `from` is a call.
 #![tactic(auto)]
 
 ghost use Rattle.std.specs.Prelude.{◌≡◌, ◌≤◌, length};
@@ -10,21 +12,17 @@ ghost use Rattle.inspecting.specs.Faults.{LowestFound, off_own_row, link_fault, 
 use books::Tables;
 use inheritance::{Kind, Mark};
 use relation::Relation;
+use ruling::Prepared;
 use settling::settle_all;
 use soundness::examine_links;
-use tables::{Fault, Refusal};
+use tables::{Fault, Refusal, Size};
 
 // The lowest kind below n that is in its own row.
 fn first_in_own_row(rows: &Relation, n: usize) -> Option<usize>
     requires { n ≤ 128 }
     ensures { LowestFound (off_own_row rows.now) n result }
 {
-    for c in 0..n {
-        if rows.has(c, c) {
-            return Some(c);
-        }
-    }
-    None
+    (0..n).find(|c| rows.has(*c, *c))
 }
 
 // The first fault of the links: the lowest place of a byte above 1, or else the lowest kind above itself. Closed has who is
@@ -33,15 +31,10 @@ fn link_fault(n: usize, links: &[u8], closed: &Relation) -> Option<Fault>
     requires { (n ≤ 128) × (length links.now ≤ 16384) }
     ensures { fault_in result ≡ link_fault n links.now closed.now }
 {
-    for (i, byte) in links.iter().enumerate() {
-        if *byte > 1 {
-            return Some(Fault::LinkByte(i as u16));
-        }
+    if let Some(place) = links.iter().position(|byte| *byte > 1) {
+        return Some(Fault::LinkByte(place as u16));
     }
-    match first_in_own_row(closed, n) {
-        Some(kind) => Some(Fault::AboveItself(Kind(kind as u16))),
-        None => None,
-    }
+    first_in_own_row(closed, n).map(|kind| Fault::AboveItself(Kind(kind as u16)))
 }
 
 // The lowest place at which two tables differ.
@@ -49,12 +42,7 @@ fn first_apart(xs: &[u16], ys: &[u16]) -> Option<usize>
     requires { length ys.now ≡ length xs.now }
     ensures { LowestFound (same_at xs.now ys.now) (length xs.now) result }
 {
-    for i in 0..xs.len() {
-        if xs[i] != ys[i] {
-            return Some(i);
-        }
-    }
-    None
+    xs.iter().zip(ys).position(|(x, y)| x != y)
 }
 
 // The fault of tables whose links have none: the lowest place whose entry is not its lookup, or else the lowest mark whose dispute
@@ -82,20 +70,21 @@ pub fn inspect(tables: &Tables) -> Result<Option<Fault>, Refusal>
     if !tables.is_shaped() {
         return Err(Refusal::Shape);
     }
-    let n = tables.n as usize;
-    let m = tables.m as usize;
-    let mut rows = Relation::empty();
-    let mut order = [0u8; 128];
-    let mut reach = Relation::empty();
-    let linked = examine_links(n, tables.links, &mut rows, &mut order, &mut reach);
+    let size = Size {
+        n: tables.n as usize,
+        m: tables.m as usize,
+    };
+    let mut prepared = Prepared::empty();
+    let order = &mut prepared.order;
+    let linked = examine_links(size.n, tables.links, order);
     if !linked {
-        rows.close(n);
-        return Ok(link_fault(n, tables.links, &rows));
+        order.rows.close(size.n);
+        return Ok(link_fault(size.n, tables.links, &order.rows));
     }
     let mut scratch = [0u16; 8192];
     let lookups = &mut scratch[..tables.entries.len()];
     let mut counted = [0u16; 64];
     let counts = &mut counted[..tables.disputes.len()];
-    settle_all(&rows, &order, &reach, n, m, tables.rules, lookups, counts);
+    settle_all(&mut prepared, size, tables.rules, lookups, counts);
     Ok(entry_fault(tables.entries, lookups, tables.disputes, counts))
 }

@@ -5,7 +5,6 @@
 -- Assumes nothing.
 use mathlib.Core.Path.{◌≡◌, refl, sym, ◌∙◌, ap, subst}
 use mathlib.Core.Bool.{Bool, true, false}
-use mathlib.Core.List.{List}
 use Prim.Native.Nat.{ℕ, ◌<◌}
 use native.Mathlib.Omega.{arith}
 use Rattle.std.specs.Prelude.{Option, Some, None, Result, unwrap_or}
@@ -14,7 +13,7 @@ use Rattle.inheritance.specs.declared.Mark.{Mark}
 use Rattle.inheritance.specs.Checked.{kind_below, mark_below}
 use Rattle.books.specs.Ask.{asked_at, bare, asked_rule, asked_link}
 use Rattle.books.proofs.AskLaws.{asked_at_place, rule_at, asked_between}
-use Rattle.relation.specs.declared.Relation.{Relation}
+use Rattle.ruling.specs.declared.Prepared.{Prepared}
 use Rattle.link_edits.proofs.LinkEditLaws.{link_refused, link_passed, added_link, taken_link}
 use Rattle.link_edits.specs.LinkEdit.{link_call}
 use Rattle.relinking.specs.Relinked.{link_edit}
@@ -108,10 +107,9 @@ module _ (n m : ℕ) (t : Tables) (by : ℕ) (fits : shaped n m t ≡ true) (low
 
 -- ---- what is then known
 
-module _ {n m : ℕ} {t : Tables} {rows : Relation} {order : List ℕ} {reach ruled : Relation} (k : Known n m t rows order reach ruled) (by : ℕ) (c : Change) where
-  pub made_known : {reply : Reply ℕ} {t' : Tables} {rows' : Relation} {order' : List ℕ} {reach' ruled' : Relation} → leaves reply t' ≡ edit_outcome n m t by c → Tracked n m t' rows' order' reach' ruled'
-      → (leaves reply t' ≡ edit_outcome n m t by c) × Known n m t' rows' order' reach' ruled'
-  made_known {reply} {t'} is tracked = (is, record { fits = consistent_shaped after; is_sound = consistent_sound after; tracked = tracked })
+module _ {n m : ℕ} {t : Tables} {d : Prepared} (k : Known n m t d) (by : ℕ) (c : Change) where
+  pub made_known : {reply : Reply ℕ} {t' : Tables} {d' : Prepared} → leaves reply t' ≡ edit_outcome n m t by c → Tracked n m t' d' → Known n m t' d'
+  made_known {reply} {t'} is tracked = record { fits = consistent_shaped after; is_sound = consistent_sound after; tracked = tracked }
     where
       after : Consistent n m t'
       after = subst (Consistent n m) (sym (ap (λ (o : Outcome ℕ). o.tables) is)) (edit_consistent n m t (record { lengths = (has k).lengths; right = (has k).before }) n m by c)

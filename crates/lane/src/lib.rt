@@ -1,4 +1,5 @@
 // The find that line controllers written in C put to us.
+// Numbers change width by `as`: each fits, and what `from` or `try_from` answers would have to be told to each goal.
 #![tactic(auto)]
 
 ghost use Rattle.std.specs.Prelude.{◌≡◌, ◌+◌, ◌*◌, ◌<◌, length, get_or};
@@ -32,18 +33,19 @@ fn answer(n: u16, m: u16, rules: &[u8], entries: &[u8], k: Kind, j: Mark) -> u32
         let row_after = tables::place(Kind(entry), j, m);
         let handling = word(rules, row_after - m as usize);
         if handling == 0 {
-            10
+            Refusal::BadEntry as u32
         } else {
             65536 * entry as u32 + handling as u32
         }
     } else if (entry == 0) | (257 <= entry) & (entry <= 256 + n) {
         65536 * entry as u32
     } else {
-        10
+        Refusal::BadEntry as u32
     }
 }
 
-// The tables are bytes, and the answer is one number. Refusals 2 and 3 are answered where they are found: given on as a value they
+/// Find: the tables are bytes, and the answer is one number.
+// Refusals 2 and 3 are answered where they are found: given on as a value they
 // cost the find a few in 100.
 #[unsafe(no_mangle)]
 pub extern "C" fn lane_find(

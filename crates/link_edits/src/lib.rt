@@ -1,4 +1,6 @@
-// The edits of a link. Nothing is written before the tables are known to be sound.
+// The edits of a link. Nothing is written before the tables are known to be sound. C lends the rules to read only, so the tables come one
+// by one and not as a `Book`.
+// A `Size` is made by `as`: its numbers have to be known by computation, and `from` is a call.
 #![tactic(auto)]
 
 ghost use Rattle.std.specs.Prelude.{◌≡◌, true, ◌<◌};
@@ -11,15 +13,15 @@ ghost use Rattle.link_edits.specs.LinkEdit.{link_call};
 
 use books::{Tables, ask_link};
 use inheritance::Kind;
-use relation::Relation;
 use relinking::set_link;
+use ruling::Prepared;
 use soundness::examine;
-use tables::{Caller, Refusal};
+use tables::{Caller, Refusal, Size};
 
-// The link between two kinds of the book is added or taken. `adding` stays a bool, here and in what calls this: no value stands beside it.
+// The link between two kinds of the book is added or taken: as `edit_rule` does for a rule, but other tables are written, so the two cannot
+// share a body. `adding` stays a bool, here and in what calls this: no value stands beside it.
 fn edit_link(
-    n: u16,
-    m: u16,
+    size: Size,
     links: &mut [u8],
     rules: &[u16],
     entries: &mut [u16],
@@ -30,24 +32,28 @@ fn edit_link(
     parent: Kind,
     adding: bool,
 ) -> Result<u16, Refusal>
-    requires { (shaped n m (lent links.old rules.now entries.old tally.old disputes.old) ≡ true) × (caller.0 < callers) × (child.0 < n) × (parent.0 < n) }
+    requires shaped { shaped size.n size.m (lent links.old rules.now entries.old tally.old disputes.old) ≡ true }
+    requires in_range { (caller.0 < callers) × (child.0 < size.n) × (parent.0 < size.n) }
     ensures { leaves (replied result) (lent links.new rules.now entries.new tally.new disputes.new)
-        ≡ link_edit n m (lent links.old rules.now entries.old tally.old disputes.old) caller.0 child.0 parent.0 adding }
+        ≡ link_edit size.n size.m (lent links.old rules.now entries.old tally.old disputes.old) caller.0 child.0 parent.0 adding }
 {
-    let mut rows = Relation::empty();
-    let mut order = [0u8; 128];
-    let mut reach = Relation::empty();
-    let mut ruled = Relation::empty();
-    let sound = examine(
-        n as usize, m as usize, links, rules, entries, disputes, &mut rows, &mut order, &mut reach,
-        &mut ruled,
-    );
+    let mut prepared = Prepared::empty();
+    let sound = examine(size, links, rules, entries, disputes, &mut prepared);
     if !sound {
         return Err(Refusal::Unsound);
     }
     set_link(
-        n, m, links, rules, entries, tally, disputes, &mut rows, &mut order, &mut reach,
-        &mut ruled, caller, child, parent, adding,
+        &mut prepared,
+        size,
+        links,
+        rules,
+        entries,
+        tally,
+        disputes,
+        caller,
+        child,
+        parent,
+        adding,
     )
 }
 
@@ -79,8 +85,12 @@ fn change_link(
     };
     let by = lent.ask_caller(caller)?;
     let (child, parent) = ask_link(n, child, parent)?;
+    let size = Size {
+        n: n as usize,
+        m: m as usize,
+    };
     edit_link(
-        n, m, links, rules, entries, tally, disputes, by, child, parent, adding,
+        size, links, rules, entries, tally, disputes, by, child, parent, adding,
     )
 }
 

@@ -7,7 +7,6 @@
 -- Assumes nothing.
 use mathlib.Core.Path.{◌≡◌, refl, sym, ◌∙◌, ap}
 use mathlib.Core.Bool.{Bool, true, false, ◌&&◌}
-use mathlib.Core.List.{List}
 use Prim.Native.Nat.{ℕ, ◌+◌, ◌<◌, ◌≤◌}
 use native.Mathlib.Omega.{arith}
 use borrow.Author.Tests.{lt-leb, le-leb}
@@ -15,7 +14,7 @@ use lib.Dec.{leb, ltb}
 use Rattle.std.specs.Prelude.{Result, None}
 use Rattle.books.specs.Ask.{checked_caller}
 use Rattle.books.proofs.AskLaws.{by_passes, caller_refuses}
-use Rattle.relation.specs.declared.Relation.{Relation}
+use Rattle.ruling.specs.declared.Prepared.{Prepared}
 use Rattle.resettling.specs.Known.{Known}
 use Rattle.resettling.proofs.KnownLaws.{has}
 use Rattle.tables.specs.declared.Edit.{Edit}
@@ -80,9 +79,8 @@ module _ (n m by : ℕ) (e : Edit) (t : Tables) (l : Listing) where
       go (given c) is = obeys_small n m by kinds marks c t t' count (edit_obeys n m t by c count t' (sym is))
       go (refused number) is = absurd (given_not_refused count number (ap (λ (o : Outcome ℕ). o.reply) is))
 
-  pub next_going : {count : ℕ} {t' : Tables} {rows : Relation} {order : List ℕ} {reach ruled rows' : Relation} {order' : List ℕ} {reach' ruled' : Relation}
-      → Going n m by t l rows order reach ruled → leaves (given count) t' ≡ record_outcome n m t by e → Known n m t' rows' order' reach' ruled'
-      → Going n m by t' (record { accepted = l.accepted + 1; changed = l.changed + count; stopped = None }) rows' order' reach' ruled'
+  pub next_going : {count : ℕ} {t' : Tables} {d d' : Prepared} → Going n m by t l d → leaves (given count) t' ≡ record_outcome n m t by e → Known n m t' d'
+      → Going n m by t' (record { accepted = l.accepted + 1; changed = l.changed + count; stopped = None }) d'
   next_going g is known =
       let s = (has g.known).sizes in record {
         caller_in = g.caller_in;

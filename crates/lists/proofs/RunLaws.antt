@@ -1,11 +1,14 @@
 -- A run over what is left of a list of edits.
 --     run_more, run_end      from a record on, where the run ends so, it ends so from the next on; and past the last
 --     goes_on                what is known of a list of which no edit is refused
+--     same_book, same_then   the book is the one that was lent
 --     run_over, run_refused  after a refused edit, and in a list that is refused, none is made
 -- Assumes nothing.
 use Rattle.std.proofs.Common.{◌≡◌, ◌≤◌, ◌<◌, ℕ, zero, suc, ◌+◌, List, [], ◌∷◌, length, drop, get_or, arith, refl, sym, ap, ◌∙◌, add-one, drop-cons}
 use mathlib.Core.Bool.{true, false, false≢true}
 use Rattle.std.specs.Prelude.{Option, Some, None, is_some, IfNone}
+use Rattle.books.specs.declared.Book.{Book}
+use Rattle.books.specs.Lent.{SameBook}
 use Rattle.tables.specs.declared.Edit.{Edit}
 use Rattle.tables.specs.declared.Refusal.{Refusal}
 use Rattle.tables.specs.Calls.{leaves}
@@ -40,3 +43,19 @@ module _ (n m caller : ℕ) (es : List Edit) (t : Tables) where
 
   pub run_refused : (number : ℕ) → run (next_edit n m caller) es (leaves (refused number) t) ≡ leaves (refused number) t
   run_refused number = run_stays n m caller (refused number) (λ e u. refl) es t
+
+-- ---- the book of a run
+
+pub same_book : (b : Book) → SameBook b b
+same_book b = record { kinds = refl; marks = refl; links = refl; rules = refl; entries = refl; tally = refl; disputes = refl }
+
+pub same_then : {a b c : Book} → SameBook a b → SameBook b c → SameBook a c
+same_then s t = record {
+  kinds = t.kinds ∙ s.kinds;
+  marks = t.marks ∙ s.marks;
+  links = t.links ∙ s.links;
+  rules = t.rules ∙ s.rules;
+  entries = t.entries ∙ s.entries;
+  tally = t.tally ∙ s.tally;
+  disputes = t.disputes ∙ s.disputes;
+}

@@ -11,7 +11,7 @@ ghost use Rattle.tables.specs.Reply.{replied_as, listing_of};
 
 use crate::listing::{begin, step};
 use books::Book;
-use relation::Relation;
+use ruling::Prepared;
 use tables::{Caller, Edit, Listing, Refusal};
 
 /// The edits in order, all by one caller, up to the first that is refused. Soundness is tested once, before the first.
@@ -21,27 +21,10 @@ pub fn make_list(book: &mut Book, caller: Caller, edits: &[Edit]) -> Result<List
         ≡ make_list book.old.n book.old.m (tables_of book.old) caller.0 edits.now }
     ensures refused { OnErr result (tables_of book.new ≡ tables_of book.old) }
 {
-    let n = book.n;
-    let m = book.m;
-    let links = &mut *book.links;
-    let rules = &mut *book.rules;
-    let entries = &mut *book.entries;
-    let tally = &mut *book.tally;
-    let disputes = &mut *book.disputes;
-    let mut rows = Relation::empty();
-    let mut order = [0u8; 128];
-    let mut reach = Relation::empty();
-    let mut ruled = Relation::empty();
-    let records = edits.len();
-    let mut listing = begin(
-        n, m, records, links, rules, entries, tally, disputes, &mut rows, &mut order, &mut reach,
-        &mut ruled, caller,
-    )?;
+    let mut prepared = Prepared::empty();
+    let mut listing = begin(book, &mut prepared, edits.len(), caller)?;
     for edit in edits {
-        listing = step(
-            listing, *edit, n, m, links, rules, entries, tally, disputes, &mut rows, &mut order,
-            &mut reach, &mut ruled, caller,
-        );
+        listing = step(book, &mut prepared, listing, *edit, caller);
         if listing.stopped.is_some() {
             return Ok(listing);
         }

@@ -1,60 +1,51 @@
 // The edits of a list one by one: the checks before the first, and each edit on tables that the list knows to be sound.
-ghost use Rattle.std.specs.Prelude.{◌≡◌, ◌+◌, ◌<◌, ◌≤◌, length, IfOk, IfNone};
+// A `Size` is made by `as`: its numbers have to be known by computation, and `from` is a call.
+ghost use Rattle.std.specs.Prelude.{◌≡◌, ◌+◌, ◌<◌, ◌≤◌, IfOk, IfNone};
+ghost use Rattle.books.specs.Lent.{SameBook, tables_of};
 ghost use Rattle.relation.specs.Bit.{Blank};
 ghost use Rattle.resettling.specs.Known.{Known};
 ghost use Rattle.tables.specs.Caller.{callers};
 ghost use Rattle.tables.specs.Calls.{leaves};
 ghost use Rattle.tables.specs.Lists.{most_records, record_outcome, begin_list, next_edit};
 ghost use Rattle.tables.specs.Reply.{given, replied, replied_as, listing_of};
-ghost use Rattle.tables.specs.Tables.{lent};
 ghost use Rattle.lists.specs.Going.{Going};
 
-use books::Tables;
+use books::Book;
 use known_edits::make_known;
-use relation::Relation;
+use ruling::Prepared;
 use soundness::examine;
-use tables::{Caller, Change, Edit, Listing, Refusal};
+use tables::{Caller, Change, Edit, Listing, Refusal, Size};
 
-/// The most records of a list.
+// The most records of a list.
 const MOST_RECORDS: usize = 4096;
 
-/// The checks before the first edit of a list of so many records, all by one caller. Where they are passed, all is ready for it.
+// The checks before the first edit of a list of so many records, all by one caller. Where they are passed, all is prepared for it.
 pub(crate) fn begin(
-    n: u16,
-    m: u16,
+    book: &Book,
+    prepared: &mut Prepared,
     records: usize,
-    links: &[u8],
-    rules: &[u16],
-    entries: &[u16],
-    tally: &[u32],
-    disputes: &[u16],
-    rows: &mut Relation,
-    order: &mut [u8; 128],
-    reach: &mut Relation,
-    ruled: &mut Relation,
     caller: Caller,
 ) -> Result<Listing, Refusal>
-    requires { (Blank rows.old) × (length order.old ≡ 128) × (Blank reach.old) × (Blank ruled.old) }
-    ensures outcome { leaves (replied_as listing_of result) (lent links.now rules.now entries.now tally.now disputes.now)
-        ≡ begin_list n m (lent links.now rules.now entries.now tally.now disputes.now) caller.0 records }
-    ensures ready { IfOk result (λ listing. (Going n m caller.0 (lent links.now rules.now entries.now tally.now disputes.now) listing
-        rows.new order.new reach.new ruled.new) × (listing.accepted ≡ 0) × (records ≤ most_records)) }
+    requires { (Blank prepared.old.order.rows) × (Blank prepared.old.order.reach) × (Blank prepared.old.ruled) }
+    ensures outcome { leaves (replied_as listing_of result) (tables_of book.now) ≡ begin_list book.now.n book.now.m (tables_of book.now) caller.0 records }
+    ensures ready { IfOk result (λ listing. (Going book.now.n book.now.m caller.0 (tables_of book.now) listing prepared.new)
+        × (listing.accepted ≡ 0) × (records ≤ most_records)) }
 {
     if records > MOST_RECORDS {
         return Err(Refusal::Shape);
     }
-    let lent = Tables {
-        n,
-        m,
-        links,
-        rules,
-        entries,
-        tally,
-        disputes,
+    book.ask_caller(caller)?;
+    let size = Size {
+        n: book.n as usize,
+        m: book.m as usize,
     };
-    lent.ask_caller(caller)?;
     let sound = examine(
-        n as usize, m as usize, links, rules, entries, disputes, rows, order, reach, ruled,
+        size,
+        book.links,
+        book.rules,
+        book.entries,
+        book.disputes,
+        prepared,
     );
     if !sound {
         return Err(Refusal::Unsound);
@@ -68,59 +59,38 @@ pub(crate) fn begin(
 
 // The edit that a record stands for is made.
 fn make_record(
+    book: &mut Book,
+    prepared: &mut Prepared,
     edit: Edit,
-    n: u16,
-    m: u16,
-    links: &mut [u8],
-    rules: &mut [u16],
-    entries: &mut [u16],
-    tally: &mut [u32],
-    disputes: &mut [u16],
-    rows: &mut Relation,
-    order: &mut [u8; 128],
-    reach: &mut Relation,
-    ruled: &mut Relation,
     caller: Caller,
 ) -> Result<u16, Refusal>
-    requires { (Known n m (lent links.old rules.old entries.old tally.old disputes.old) rows.old order.old reach.old ruled.old) × (caller.0 < callers) }
-    ensures { (leaves (replied result) (lent links.new rules.new entries.new tally.new disputes.new)
-        ≡ record_outcome n m (lent links.old rules.old entries.old tally.old disputes.old) caller.0 edit)
-        × (Known n m (lent links.new rules.new entries.new tally.new disputes.new) rows.new order.new reach.new ruled.new) }
+    requires known { Known book.old.n book.old.m (tables_of book.old) prepared.old }
+    requires caller { caller.0 < callers }
+    ensures same { SameBook book.old book.new }
+    ensures outcome { leaves (replied result) (tables_of book.new) ≡ record_outcome book.old.n book.old.m (tables_of book.old) caller.0 edit }
+    ensures known { Known book.old.n book.old.m (tables_of book.new) prepared.new }
 {
     let change = Change::try_from(edit)?;
-    make_known(
-        caller, change, n, m, links, rules, entries, tally, disputes, rows, order, reach, ruled,
-    )
+    make_known(book, prepared, caller, change)
 }
 
-/// The next edit of a list that goes on.
+// The next edit of a list that goes on.
 pub(crate) fn step(
+    book: &mut Book,
+    prepared: &mut Prepared,
     listing: Listing,
     edit: Edit,
-    n: u16,
-    m: u16,
-    links: &mut [u8],
-    rules: &mut [u16],
-    entries: &mut [u16],
-    tally: &mut [u32],
-    disputes: &mut [u16],
-    rows: &mut Relation,
-    order: &mut [u8; 128],
-    reach: &mut Relation,
-    ruled: &mut Relation,
     caller: Caller,
 ) -> Listing
-    requires { (Going n m caller.0 (lent links.old rules.old entries.old tally.old disputes.old) listing rows.old order.old reach.old ruled.old)
-        × (listing.accepted < most_records) }
-    ensures outcome { leaves (given (listing_of result)) (lent links.new rules.new entries.new tally.new disputes.new)
-        ≡ next_edit n m caller.0 edit (leaves (given (listing_of listing)) (lent links.old rules.old entries.old tally.old disputes.old)) }
-    ensures ready { IfNone result.stopped ((Going n m caller.0 (lent links.new rules.new entries.new tally.new disputes.new) result
-        rows.new order.new reach.new ruled.new) × (result.accepted ≡ listing.accepted + 1)) }
+    requires going { Going book.old.n book.old.m caller.0 (tables_of book.old) listing prepared.old }
+    requires room { listing.accepted < most_records }
+    ensures same { SameBook book.old book.new }
+    ensures outcome { leaves (given (listing_of result)) (tables_of book.new)
+        ≡ next_edit book.old.n book.old.m caller.0 edit (leaves (given (listing_of listing)) (tables_of book.old)) }
+    ensures ready { IfNone result.stopped ((Going book.old.n book.old.m caller.0 (tables_of book.new) result prepared.new)
+        × (result.accepted ≡ listing.accepted + 1)) }
 {
-    let made = make_record(
-        edit, n, m, links, rules, entries, tally, disputes, rows, order, reach, ruled, caller,
-    );
-    match made {
+    match make_record(book, prepared, edit, caller) {
         Ok(count) => Listing {
             accepted: listing.accepted + 1,
             changed: listing.changed + u32::from(count),

@@ -1,5 +1,6 @@
 // The links of a book, read from bytes that are known to be 0 or 1 into rows of bits: eight bytes are taken at once and
 // brought together by shifts.
+// n stands alone here, in `relation`, `arranging` and `propagation`: links have no marks, so it is no `Size`.
 #![tactic(auto)]
 
 ghost use Rattle.std.specs.Prelude.{◌+◌, ◌*◌, ◌/◌, ◌<◌, ◌≤◌, length};
@@ -50,6 +51,7 @@ fn word(links: &[u8], i: usize, k: usize) -> u64
     ensures { Word links.now i (8 * k) result }
 {
     let mut w = 0u64;
+    // by number: q is the place of the eight bytes and of their bits
     for q in 0..k {
         w = w | fold(links, i + 8 * q) << (8 * q);
     }
@@ -76,6 +78,7 @@ fn load_rest(links: &[u8], n: usize, c: usize, rows: &mut Relation)
     requires { (n * n ≤ length links.now) × (n ≤ 128) × (c < n) × (Filled (before c (n / 8 * 8)) n links.now rows.old) }
     ensures { Filled (rows_before (c + 1)) n links.now rows.new }
 {
+    // by number: p is the place of the byte and the kind
     for p in n / 8 * 8..n {
         if links[c * n + p] == 1 {
             rows.insert(c, p);
@@ -83,12 +86,13 @@ fn load_rest(links: &[u8], n: usize, c: usize, rows: &mut Relation)
     }
 }
 
-// The links of a book of n kinds are put into blank rows. Every byte is 0 or 1, and that at place child * n + parent is 1
-// where there is a link.
+/// The links of a book of n kinds are put into blank rows. Every byte is 0 or 1, and that at place child * n + parent is 1
+/// where there is a link.
 pub fn load(links: &[u8], n: usize, rows: &mut Relation)
     requires { (n * n ≤ length links.now) × (n ≤ 128) × (Tested n links.now) × (Blank rows.old) }
     ensures { Loaded n links.now rows.new }
 {
+    // by number: c names the kind in the bytes and in the rows
     for c in 0..n {
         load_words(links, n, c, rows);
         load_rest(links, n, c, rows);

@@ -21,7 +21,6 @@ use Rattle.inheritance.specs.Checked.{kind}
 use Rattle.inheritance.specs.Lookup.{left, passing, join, meet}
 use Rattle.inheritance.specs.Step.{narrowed, step}
 use Rattle.inheritance.proofs.MeetLaws.{meet_keeps}
-use Rattle.relation.specs.declared.Relation.{Relation}
 use Rattle.relation.specs.Bit.{bit}
 use Rattle.relation.specs.First.{First}
 use Rattle.relation.proofs.Walking.{first_skips}
@@ -29,7 +28,9 @@ use Rattle.inheritance.specs.Entry.{entry_of, lookup_of}
 use Rattle.tables.specs.Step.{read, stepped}
 use Rattle.tables.specs.Tables.{own_of}
 use Rattle.inheritance.proofs.EntryLaws.{Coded, coded_none, coded_dispute, coded_read}
-use Rattle.deciding.specs.Deciding.{Prepared, deciding, apart}
+use Rattle.ruling.specs.declared.Prepared.{Prepared}
+use Rattle.ruling.specs.Ready.{Ready}
+use Rattle.deciding.specs.Deciding.{decided_at, apart}
 use Rattle.deciding.specs.Row.{Row}
 use Rattle.merging.specs.Merged.{merged, narrowing, ruled, given}
 use Rattle.merging.proofs.MergeLaws.{merge_first}
@@ -114,25 +115,25 @@ module _ (m : ℕ) (up : ℕ → ℕ → Bool) (entries : List ℕ) (c : ℕ) wh
         go false = refl
 
 -- .. and where the parents differ, what is prepared decides
-module _ {n m : ℕ} {rows : Relation} {rules order : List ℕ} {reach places : Relation} (p : Prepared n m rows rules order reach places) (most : n ≤ 128) (entries : List ℕ) (c : ℕ) (c<n : c < n) where
+module _ {n m : ℕ} {rules : List ℕ} {d : Prepared} (p : Ready n m rules d) (most : n ≤ 128) (entries : List ℕ) (c : ℕ) (c<n : c < n) where
   step_decided : (j : ℕ) → j < m
-      → apart c (ruled c (get_or rules (c * m + j) 0) (given m (bit rows) entries c n j)) (deciding order reach places c j) ≡ stepped n m (bit rows) rules entries c j
+      → apart c (ruled c (get_or rules (c * m + j) 0) (given m (bit d.order.rows) entries c n j)) (decided_at d c j) ≡ stepped n m (bit d.order.rows) rules entries c j
   step_decided j h = let rule = get_or rules (c * m + j) 0 in
-      apart_ruled c rule (given m (bit rows) entries c n j) (deciding order reach places c j) (omega arith)
-      ∙ ap (ruled c rule) (apart_narrows n (lefts m (bit rows) entries c n rules j) c (given m (bit rows) entries c n j) (deciding order reach places c j)
-      (deciding_left n rows order reach p.arranged m rules places p.rule_kinds most c j c<n h))
-      ∙ given_own m (bit rows) entries c n rules j
+      apart_ruled c rule (given m (bit d.order.rows) entries c n j) (decided_at d c j) (omega arith)
+      ∙ ap (ruled c rule) (apart_narrows n (lefts m (bit d.order.rows) entries c n rules j) c (given m (bit d.order.rows) entries c n j) (decided_at d c j)
+      (deciding_left n d.order.rows d.order.kinds d.order.reach p.arranged m rules d.ruled p.rule_kinds most c j c<n h))
+      ∙ given_own m (bit d.order.rows) entries c n rules j
 
   -- e is what all parents give
-  pub step_done : (j : ℕ) {e : ℕ} → j < m → e ≡ given m (bit rows) entries c n j
-      → apart c (ruled c (get_or rules (c * m + j) 0) e) (deciding order reach places c j) ≡ stepped n m (bit rows) rules entries c j
-  step_done j h is = ap (λ (e : ℕ). apart c (ruled c (get_or rules (c * m + j) 0) e) (deciding order reach places c j)) is ∙ step_decided j h
+  pub step_done : (j : ℕ) {e : ℕ} → j < m → e ≡ given m (bit d.order.rows) entries c n j
+      → apart c (ruled c (get_or rules (c * m + j) 0) e) (decided_at d c j) ≡ stepped n m (bit d.order.rows) rules entries c j
+  step_done j h is = ap (λ (e : ℕ). apart c (ruled c (get_or rules (c * m + j) 0) e) (decided_at d c j)) is ∙ step_decided j h
 
-  pub row_decided : {lo hi : ℕ} {mid new : List ℕ} → hi ≤ m → Row lo hi (λ j. ruled c (get_or rules (c * m + j) 0) (given m (bit rows) entries c n j)) mid
-      → Row lo hi (λ j. apart c (get_or mid j 0) (deciding order reach places c j)) new → Row lo hi (stepped n m (bit rows) rules entries c) new
+  pub row_decided : {lo hi : ℕ} {mid new : List ℕ} → hi ≤ m → Row lo hi (λ j. ruled c (get_or rules (c * m + j) 0) (given m (bit d.order.rows) entries c n j)) mid
+      → Row lo hi (λ j. apart c (get_or mid j 0) (decided_at d c j)) new → Row lo hi (stepped n m (bit d.order.rows) rules entries c) new
   row_decided high o s =
-      row_same (stepped n m (bit rows) rules entries c)
-      (λ j a b. ap (λ (e : ℕ). apart c e (deciding order reach places c j)) (o.at j a b) ∙ step_decided j (omega arith)) s
+      row_same (stepped n m (bit d.order.rows) rules entries c)
+      (λ j a b. ap (λ (e : ℕ). apart c e (decided_at d c j)) (o.at j a b) ∙ step_decided j (omega arith)) s
 
 -- the own rules win in a row that has what the parents give
 pub row_owned : {lo hi : ℕ} {f : ℕ → ℕ} {out mid : List ℕ} (c : ℕ) (rule : ℕ → ℕ) → Row lo hi f out → Row lo hi (λ j. ruled c (rule j) (get_or out j 0)) mid → Row lo hi (λ j. ruled c (rule j) (f j)) mid

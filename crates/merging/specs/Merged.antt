@@ -4,9 +4,8 @@
 --     narrowing       what they give, where the kinds left decide if they differ
 --     agreed          no entry of a row says that the parents differ
 --     ruled           the entry of kind c, where its own rule wins over what its parents give
---     MarkRange       a range of marks
 -- Assumes nothing.
-use Rattle.std.specs.Prelude.{Bool, true, false, ◌||◌, not, List, ℕ, ◌+◌, ◌≤◌, eqb, ltb}
+use Rattle.std.specs.Prelude.{Bool, true, false, ◌||◌, not, List, ℕ, ◌+◌, eqb, ltb}
 use Rattle.inheritance.specs.Lookup.{join, meet, passing}
 use Rattle.inheritance.specs.Step.{narrowed}
 use Rattle.inheritance.specs.Entry.{entry_of, lookup_of}
@@ -30,8 +29,3 @@ agreed c lo hi f = all_below (λ j. ltb j lo || not (eqb (f j) (257 + c))) hi
 
 unfoldable pub ruled : ℕ → ℕ → ℕ → ℕ
 ruled c rule e = elim (eqb rule 0) [ true ↦ e | false ↦ c + 1 ]
-
-pub record MarkRange (m lo hi : ℕ) : Type 0 where
-  pub most : m ≤ 64
-  pub low : lo ≤ hi
-  pub high : hi ≤ m

@@ -1,4 +1,5 @@
-// The answers of the calls as one number each, for programs in C.
+// The answers of the calls as one number each, for programs in C. By functions and not by `From`: five of them are of a `Result`, which has no
+// impl of ours, and the other three serve these.
 #![tactic(auto)]
 
 ghost use Rattle.std.specs.Prelude.{◌≡◌, ◌+◌, Some};
@@ -8,7 +9,7 @@ ghost use Rattle.packing.specs.Packed.{packed_opened, packed_edited, packed_pair
 use inheritance::Kind;
 use tables::{Fault, Listing, Refusal};
 
-/// A refusal as a number.
+// A refusal as a number.
 fn pack_refusal(why: Refusal) -> u32
     ensures { result ≡ 65536 + refusal_number why }
 {
@@ -45,7 +46,7 @@ pub fn pack_pair(reply: Result<(Kind, Kind), Refusal>) -> u32
     }
 }
 
-/// A fault as a number: which of the four it is, in the upper half, and where.
+// A fault as a number: which of the four it is, in the upper half, and where.
 fn pack_fault(fault: Fault) -> u32
     ensures { result ≡ packed_fault (given (fault_in (Some fault))) }
 {

@@ -4,6 +4,7 @@
 --     gathered_none, gathered_take, gathered_skip     no place is gone through; one more that is common, and one that is not
 --     gathered_left                             after the last place the set has the kinds left
 --     pair_none, pair_one, pair_two             the two lowest, as code finds them: there is none, there is one, there are two
+--     passed_pair                               a `?` returns that there are not two
 -- Assumes nothing.
 use mathlib.Core.Path.{◌≡◌, refl, sym, ◌∙◌, ap, ap₂, subst}
 use mathlib.Core.Logic.{inr, ⊎_elim, ◌↔◌, by_cases}
@@ -19,6 +20,7 @@ use lib.Dec.{eqb, ltb}
 use lib.ListN.{get_or}
 use Rattle.inheritance.specs.Above.{Chain}
 use Rattle.inheritance.specs.Checked.{kind}
+use Rattle.inheritance.specs.declared.Kind.{Kind}
 use Rattle.inheritance.specs.Lookup.{some_below, least, left, passing}
 use Rattle.inheritance.proofs.AboveLaws.{lt_suc_cases, chain_above}
 use Rattle.inheritance.proofs.Bools.{same_bool}
@@ -31,14 +33,18 @@ use Rattle.relation.specs.Bit.{bit, holds, none_of, row_of, Gains}
 use Rattle.relation.specs.First.{First}
 use Rattle.relation.proofs.Bools.{one_more}
 use Rattle.std.specs.Prelude.{Result}
+use Rattle.std.specs.Result.{IsErrAnd}
+use Rattle.std.proofs.lemmas.Result.{err_from_is_err_and}
 use Rattle.relation.proofs.Zeros.{holds_none}
 use Rattle.tables.specs.declared.Refusal.{Refusal}
 use Rattle.tables.specs.Tables.{own_of}
-use Rattle.deciding.specs.Deciding.{Prepared, common}
+use Rattle.ruling.specs.declared.Prepared.{Prepared}
+use Rattle.ruling.specs.Ready.{Ready}
+use Rattle.deciding.specs.Deciding.{common}
 use Rattle.parting.specs.Parting.{Orderly, hidden, LeftKinds, LeftGathered, pair_of}
 use Rattle.deciding.proofs.DecidingLaws.{reach_upto, both_near, near_place}
 
-pub orderly : {n m : ℕ} {rows : Relation} {rules order : List ℕ} {reach ruled : Relation} → Prepared n m rows rules order reach ruled → Orderly n order
+pub orderly : {n m : ℕ} {rules : List ℕ} {d : Prepared} → Ready n m rules d → Orderly n d.order.kinds
 orderly p = record { kinds = p.arranged.kinds; once = p.arranged.once }
 
 -- a row of reach, as a set, is joined to the places gone through
@@ -48,7 +54,19 @@ taken_above reach o {old = old} is a = record { each = λ q h. a.each q h ∙ ap
 
 -- ---- place after place
 
-module _ (order : List ℕ) (reach ruled : Relation) (c j : ℕ) where
+module _ (d : Prepared) (c j : ℕ) where
+  abbrev rows : Relation
+  rows = d.order.rows
+
+  abbrev order : List ℕ
+  order = d.order.kinds
+
+  abbrev reach : Relation
+  reach = d.order.reach
+
+  abbrev ruled : Relation
+  ruled = d.ruled
+
   abbrev both : ℕ → Bool
   both = common reach ruled c j
 
@@ -102,10 +120,10 @@ module _ (order : List ℕ) (reach ruled : Relation) (c j : ℕ) where
         none : false ≡ alone i
         none = ap (λ (t : Bool). t && not (over i i)) (sym off)
 
-  pub gathered_left : {n m : ℕ} {rows : Relation} {rules : List ℕ} (set : KindSet) → Prepared n m rows rules order reach ruled → n ≤ 128 → c < n → j < m
+  pub gathered_left : {n m : ℕ} {rules : List ℕ} (set : KindSet) → Ready n m rules d → n ≤ 128 → c < n → j < m
       → LeftKinds n order reach ruled c j n set → (x : ℕ) → x < n → holds set x ≡ left n (bit rows) (own_of m rules j) c x
   unfolding hidden
-  gathered_left {n} {m} {rows} {rules} set p most hc hj s x hx =
+  gathered_left {n} {m} {rules} set p most hc hj s x hx =
       let (k, l, e) = a.each x hx in
       subst (λ (y : ℕ). holds set y ≡ left n (bit rows) own c y) e (s k l ∙ ap (λ (t : Bool). t && (both k && not (some_below (λ q. both q && bit reach (get_or order q 0) k) k))) (lt-ltb k n l) ∙ same k l ∙ sym (left_near n (bit rows) own c hc (at k) (a.kinds k l)))
     where
@@ -198,3 +216,8 @@ module _ (f g : ℕ → Bool) (n : ℕ) (same : (i : ℕ) → i < n → g i ≡ 
     pair_two l =
         let is : past f a b ≡ true = rw (lt-ltb a b (omega (arith, t.low))) (sym (same b l) ∙ t.found l) in
         sym (ap pair_of (head ∙ ap (λ (xs : List ℕ). a ∷ xs) (passing_head (past f a) b n l is (λ i h. off i h))))
+
+-- a `?` returns the refusal that it found
+pub passed_pair : (r : Result (Kind × Kind) Refusal) (why : Refusal) → IsErrAnd r (λ (y : Refusal). y ≡ why) → why ≡ Refusal.NoDispute
+    → {o : Result (Kind × Kind) Refusal} → Result.Err Refusal.NoDispute ≡ o → r ≡ o
+passed_pair r why is same e = let (y, is-err, found) = err_from_is_err_and r is in is-err ∙ ap Result.Err (found ∙ same) ∙ e

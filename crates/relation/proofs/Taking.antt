@@ -1,7 +1,7 @@
 -- Kinds taken out of a set, the first of it each time.
 --     take_low, take_high, take_none    the first kind, in the low word, in the high one, and where there is none; and the set without it
 --     Rest                              what is left of a row: its kinds from p on
---     rest_row                          all of it
+--     rest_set, rest_row                all of it, of a set and of a row
 --     rest_some, rest_none              the first that is left is the first from p on; none is left
 --     rest_more                         it is taken out
 --     fewer_left                        fewer kinds are left
@@ -77,6 +77,9 @@ module _ (s : KindSet) where
 
 pub record Rest (f : ℕ → Bool) (p : ℕ) (rest : KindSet) : Type 0 where
   pub each : (q : ℕ) → q < 128 → holds rest q ≡ (leb p q && f q)
+
+pub rest_set : (s : KindSet) → Rest (holds s) 0 s
+rest_set s = record { each = λ q h. sym (rw (le-leb 0 q zero-le) refl) }
 
 pub rest_row : (r : Relation) (c : ℕ) {s : KindSet} → s ≡ row_of r c → Rest (bit r c) 0 s
 rest_row r c {s} e = record { each = λ q h. ap (λ (x : KindSet). holds x q) e ∙ holds_row r c q ∙ sym (rw (le-leb 0 q zero-le) refl) }

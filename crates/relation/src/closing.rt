@@ -1,7 +1,7 @@
 // A relation over kinds, closed over chains of links by Warshall's loop, and turned round. `close` and `turn` say of every
 // place what is there after.
-ghost use Rattle.std.specs.Prelude.{◌&&◌, ◌+◌, ◌-◌, ◌<◌, ◌≤◌, eqb, ltb, leb};
-ghost use Rattle.relation.specs.Bit.{on, holds, Blank, Added};
+ghost use Rattle.std.specs.Prelude.{◌&&◌, ◌<◌, ◌≤◌, eqb, ltb};
+ghost use Rattle.relation.specs.Bit.{holds, Blank, Added};
 ghost use Rattle.relation.specs.Closed.{Closed, Swept, ParentsGathered};
 ghost use Rattle.relation.specs.Turned.{Turned};
 
@@ -14,9 +14,8 @@ impl Relation {
         ensures { ParentsGathered n self.now result }
     {
         let mut parents = KindSet::EMPTY;
-        for c in 0..n {
-            let row = self.rows[c];
-            parents = parents.union(row);
+        for row in &self.rows[..n] {
+            parents = parents.union(*row);
         }
         parents
     }
@@ -48,25 +47,15 @@ impl Relation {
         }
     }
 
-    // Kind c is put into row from + k for each bit k of the word.
-    fn turn_word(&mut self, w: u64, from: usize, c: usize)
-        requires { (from ≤ 64) × (c < 128) }
-        ensures { Added self.old self.new (λ p d. eqb d c && (leb from p && (ltb p (from + 64) && on w (p - from)))) }
-    {
-        let mut left = w;
-        while left != 0 {
-            self.insert(from + u64::trailing_zeros(left) as usize, c);
-            left = left & (left - 1);
-        }
-    }
-
     // Kind c is put into row p for each kind p of the set.
     fn turn_row(&mut self, row: KindSet, c: usize)
         requires { c < 128 }
         ensures { Added self.old self.new (λ p d. eqb d c && (ltb p 128 && holds row p)) }
     {
-        self.turn_word(row.low, 0, c);
-        self.turn_word(row.high, 64, c);
+        let mut rest = row;
+        while let Some(p) = rest.take_first(128) {
+            self.insert(p, c);
+        }
     }
 
     /// A blank relation gets the rows of the kinds below n turned round: kind c is in its row p where kind p is in row c. It is lent:

@@ -1,5 +1,6 @@
 // Sets of kinds below 128, and relations over these kinds: a set for each kind, its row. Two words a set, not one of 128 bits, which
 // took C up to twice as long.
+// Numbers change width by `as`: each fits, and what `from` or `try_from` answers would have to be told to each goal.
 #![tactic(auto)]
 
 pub mod closing;
@@ -32,8 +33,10 @@ fn is_within(w: u64, other: u64) -> bool
 }
 
 impl KindSet {
+    /// No kind.
     pub const EMPTY: KindSet = KindSet { low: 0, high: 0 };
 
+    /// Every kind below 128.
     pub const ALL: KindSet = KindSet {
         low: u64::MAX,
         high: u64::MAX,
@@ -157,6 +160,27 @@ impl KindSet {
         64 + first_bit(self.high, 0)
     }
 
+    // The first kind of the set; 128 where there is none. Both words are looked at, so that which of them has it is no branch: in a book of
+    // many kinds that cannot be foretold, and by `next` the edits of such a book took up to a tenth longer.
+    fn lowest(self) -> usize
+        ensures { First (holds self) 0 128 result }
+    {
+        let low = first_bit(self.low, 0);
+        let high = first_bit(self.high, 0);
+        if low < 64 { low } else { 64 + high }
+    }
+
+    /// The first kind of the set.
+    pub fn min(self) -> Option<usize>
+        ensures { Found (holds self) 0 128 result }
+    {
+        let kind = self.lowest();
+        if kind < 128 {
+            return Some(kind);
+        }
+        None
+    }
+
     /// The first kind of the set, taken out, if it is below `end`.
     pub fn take_first(&mut self, end: usize) -> Option<usize>
         requires { end ≤ 128 }
@@ -227,6 +251,7 @@ impl Relation {
     }
 
     /// Kind p is put into row c.
+    // This, `remove` and `insert_all` are a method of the set each: one function of them would be lent which.
     pub fn insert(&mut self, c: usize, p: usize)
         requires { (c < 128) × (p < 128) }
         ensures { Added self.old self.new (λ d q. eqb d c && eqb q p) }

@@ -5,7 +5,6 @@
 -- Assumes nothing.
 use mathlib.Core.Path.{◌≡◌, refl, sym, ◌∙◌, ap, ap₂}
 use mathlib.Core.Bool.{Bool, true, false, ◌||◌}
-use mathlib.Core.List.{List}
 use Prim.Native.Nat.{ℕ, ◌<◌}
 use native.Mathlib.Omega.{arith}
 use borrow.Author.Tests.{eq-eqb, eqb-true}
@@ -23,6 +22,7 @@ use Rattle.tables.specs.Calls.{Outcome, leaves, check, accepted}
 use Rattle.tables.specs.Reply.{refused, refusal_number}
 use Rattle.tables.specs.Tables.{Tables, up_of}
 use Rattle.tables.proofs.EditLaws.{added_acyclic, taken_acyclic}
+use Rattle.ruling.specs.declared.Prepared.{Prepared}
 use Rattle.resettling.specs.Known.{Known}
 use Rattle.resettling.proofs.KnownLaws.{has, known_place}
 use Rattle.relinking.specs.Relinked.{linked, judged, link_checked, link_edit}
@@ -64,7 +64,13 @@ module _ (n m : ℕ) (t : Tables) (c p : ℕ) (adding : Bool) where
   abbrev cycle : Bool
   cycle = eqb p c || above n (up_of n t.links) p c
 
-  module _ {rows : Relation} {order : List ℕ} {reach ruled : Relation} (k : Known n m t rows order reach ruled) (c-in : c < n) (p-in : p < n) where
+  module _ {d : Prepared} (k : Known n m t d) (c-in : c < n) (p-in : p < n) where
+    abbrev rows : Relation
+    rows = d.order.rows
+
+    abbrev reach : Relation
+    reach = d.order.reach
+
     pub judged_links : {place : ℕ} → First (bit reach c) 0 128 place → judged adding (bit rows c p) (bit reach p place) ≡ judged adding there cycle
     judged_links {place} first =
         let same = rows_links n t.links rows (has k).sizes.kinds k.tracked.loaded in

@@ -20,7 +20,8 @@ use Rattle.relation.specs.declared.Relation.{Relation}
 use Rattle.relation.specs.Bit.{bit}
 use Rattle.relation.proofs.Bools.{both_eqb, eqb_both}
 use Rattle.loading.specs.Loaded.{Loaded, link}
-use Rattle.deciding.specs.Deciding.{Prepared}
+use Rattle.ruling.specs.declared.Prepared.{Prepared}
+use Rattle.ruling.specs.Ready.{Ready}
 use Rattle.settling.specs.Settled.{Settled}
 use Rattle.settling.proofs.Editing.{all_settled, link_awaiting}
 use Rattle.soundness.proofs.Soundness.{links_rows}
@@ -82,9 +83,15 @@ module _ (n : ℕ) (links : List ℕ) (c p : ℕ) (c-in : c < n) (p-in : p < n) 
 
 -- ---- the change
 
-module _ (n m : ℕ) (t : Tables) (c p : ℕ) (adding : Bool) {rows : Relation} {order : List ℕ} {reach ruled : Relation} (k : Known n m t rows order reach ruled) (c-in : c < n) (p-in : p < n)
+module _ (n m : ℕ) (t : Tables) (c p : ℕ) (adding : Bool) {d : Prepared} (k : Known n m t d) (c-in : c < n) (p-in : p < n)
     (calm : Acyclic n (up_of n (linked n t.links c p adding)))
-    {rows' : Relation} {order' : List ℕ} {reach' ruled' : Relation} (r : Relinked n m c p adding t.rules rows rows' order' reach' ruled') where
+    {d' : Prepared} (r : Relinked n m c p adding t.rules d.order.rows d') where
+  abbrev rows : Relation
+  rows = d.order.rows
+
+  abbrev rows' : Relation
+  rows' = d'.order.rows
+
   pub link_loaded : Loaded n (linked n t.links c p adding) rows'
   link_loaded = reset_loaded n t.links c p c-in p-in (has k).lengths.links_length adding k.tracked.loaded r.reset
 
@@ -92,10 +99,10 @@ module _ (n m : ℕ) (t : Tables) (c p : ℕ) (adding : Bool) {rows : Relation} 
   acyclic_after = acyclic_agree n (up_of n (linked n t.links c p adding)) (bit rows') (links_rows n (linked n t.links c p adding) rows' (has k).sizes.kinds link_loaded) calm
 
   same_but : SameBut n (bit rows') (bit rows) c p
-  same_but d q hd hq other =
-      sym (r.reset.bits d q (omega (arith, (has k).sizes.kinds)) ∙ ap (λ (here : Bool). changed adding here (bit rows d q)) (not_both d c q p other))
+  same_but e q he hq other =
+      sym (r.reset.bits e q (omega (arith, (has k).sizes.kinds)) ∙ ap (λ (here : Bool). changed adding here (bit rows e q)) (not_both e c q p other))
 
-  pub link_prepared : Prepared n m rows' t.rules order' reach' ruled'
+  pub link_prepared : Ready n m t.rules d'
   link_prepared = r.ready acyclic_after
 
   pub link_untouched : Untouched n m 0 m (bit rows') (λ _. false) c t.rules t.entries

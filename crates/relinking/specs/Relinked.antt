@@ -2,14 +2,14 @@
 --     linked        the links with one put in or taken out
 --     judged        refusals 7 and 9 of an add, and 8 of a take, by whether the link is there and whether it would close a cycle
 --     link_edit     the edit from refusal 5 on
---     Preparable    what rules and order have to be, to prepare all anew
 --     Relinked      the link is put into the rows or taken out, and all is prepared for the new links if no kind is above itself
 -- Assumes nothing.
-use Rattle.std.specs.Prelude.{◌≡◌, Bool, true, false, ◌||◌, not, List, ℕ, ◌+◌, ◌*◌, ◌≤◌, eqb, length, set, Result}
+use Rattle.std.specs.Prelude.{Bool, true, false, ◌||◌, not, List, ℕ, ◌+◌, ◌*◌, eqb, set, Result}
 use Rattle.inheritance.specs.Above.{Acyclic, above, one_if}
 use Rattle.relation.specs.declared.Relation.{Relation}
 use Rattle.relation.specs.Bit.{bit}
-use Rattle.deciding.specs.Deciding.{Prepared}
+use Rattle.ruling.specs.declared.Prepared.{Prepared}
+use Rattle.ruling.specs.Ready.{Ready}
 use Rattle.resettling.specs.Edits.{Reset}
 use Rattle.tables.specs.declared.Refusal.{Refusal}
 use Rattle.tables.specs.Calls.{Outcome, check, accepted}
@@ -36,12 +36,6 @@ link_edit n m t caller child parent adding =
     (link_checked adding (up_of n t.links child parent) (eqb parent child || above n (up_of n t.links) parent child) t
     (accepted n m t caller (linked n t.links child parent adding) t.rules))
 
-pub record Preparable (n m : ℕ) (rules order : List ℕ) : Type 0 where
-  pub kinds : n ≤ 128
-  pub marks : m ≤ 64
-  pub rules_size : length rules ≡ n * m
-  pub order_long : length order ≡ 128
-
-pub record Relinked (n m c p : ℕ) (adding : Bool) (rules : List ℕ) (old rows : Relation) (order : List ℕ) (reach ruled : Relation) : Type 0 where
-  pub reset : Reset c p adding old rows
-  pub ready : Acyclic n (bit rows) → Prepared n m rows rules order reach ruled
+pub record Relinked (n m c p : ℕ) (adding : Bool) (rules : List ℕ) (old : Relation) (d : Prepared) : Type 0 where
+  pub reset : Reset c p adding old d.order.rows
+  pub ready : Acyclic n (bit d.order.rows) → Ready n m rules d

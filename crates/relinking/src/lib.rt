@@ -1,8 +1,8 @@
 // An edit of a link on tables that are known to be sound: the link is judged and stored, all is prepared anew, and what the link can
-// touch is settled.
+// touch is settled. The tables come one by one, since C lends the rules to read only.
 #![tactic(auto)]
 
-ghost use Rattle.std.specs.Prelude.{◌≡◌, ◌<◌};
+ghost use Rattle.std.specs.Prelude.{◌≡◌, ◌*◌, ◌<◌, length};
 ghost use Rattle.inheritance.specs.Above.{Acyclic};
 ghost use Rattle.relation.specs.Bit.{bit};
 ghost use Rattle.resettling.specs.Known.{Known, Tracked};
@@ -10,32 +10,25 @@ ghost use Rattle.tables.specs.Caller.{callers};
 ghost use Rattle.tables.specs.Calls.{leaves, accepted};
 ghost use Rattle.tables.specs.Reply.{given, replied};
 ghost use Rattle.tables.specs.Tables.{lent, up_of};
-ghost use Rattle.relinking.specs.Relinked.{linked, judged, link_edit, Preparable, Relinked};
+ghost use Rattle.relinking.specs.Relinked.{linked, judged, link_edit, Relinked};
 
-use arranging::arrange;
+use arranging::Order;
 use inheritance::Kind;
 use relation::Relation;
 use resettling::{count_edit, resettle_link};
-use ruling::rule_rows;
-use tables::{Caller, Refusal, link_place};
+use ruling::Prepared;
+use tables::{Caller, Refusal, Size};
 
-// Refusals 7 and 9 of an add, in this order, and 8 of a take. The rows have the links, and reach the places of the kinds at or
-// above each; `at` is the place of the child. `adding` stays a bool, here and in what follows: no value stands beside it.
-fn judge(
-    rows: &Relation,
-    reach: &Relation,
-    child: Kind,
-    parent: Kind,
-    at: usize,
-    adding: bool,
-) -> Result<(), Refusal>
+// Refusals 7 and 9 of an add, in this order, and 8 of a take. The rows have the links, and `reach` the places of the kinds at
+// or above each; `at` is the place of the child. `adding` stays a bool, here and in what follows: no value stands beside it.
+fn judge(order: &Order, child: Kind, parent: Kind, at: usize, adding: bool) -> Result<(), Refusal>
     requires { (child.0 < 128) × (parent.0 < 128) × (at < 128) }
-    ensures { result ≡ judged adding (bit rows.now child.0 parent.0) (bit reach.now parent.0 at) }
+    ensures { result ≡ judged adding (bit order.now.rows child.0 parent.0) (bit order.now.reach parent.0 at) }
 {
-    let c = child.0 as usize;
-    let p = parent.0 as usize;
-    let linked = rows.has(c, p);
-    let cycle = reach.has(p, at);
+    let c = usize::from(child.0);
+    let p = usize::from(parent.0);
+    let linked = order.rows.has(c, p);
+    let cycle = order.reach.has(p, at);
     if adding {
         if linked {
             Err(Refusal::Linked)
@@ -53,99 +46,85 @@ fn judge(
 
 // The link is put into the rows or taken out of them, and all is prepared anew.
 fn relink(
-    n: usize,
-    m: usize,
+    prepared: &mut Prepared,
+    size: Size,
     rules: &[u16],
-    rows: &mut Relation,
-    order: &mut [u8; 128],
-    reach: &mut Relation,
-    ruled: &mut Relation,
     child: Kind,
     parent: Kind,
     adding: bool,
 )
-    requires { (Preparable n m rules.now order.old) × (child.0 < n) × (parent.0 < n) }
-    ensures { Relinked n m child.0 parent.0 adding rules.now rows.old rows.new order.new reach.new ruled.new }
+    requires { (length rules.now ≡ size.n * size.m) × (child.0 < size.n) × (parent.0 < size.n) }
+    ensures { Relinked size.n size.m child.0 parent.0 adding rules.now prepared.old.order.rows prepared.new }
 {
-    let c = child.0 as usize;
-    let p = parent.0 as usize;
+    let c = usize::from(child.0);
+    let p = usize::from(parent.0);
+    let order = &mut prepared.order;
     if adding {
-        rows.insert(c, p);
+        order.rows.insert(c, p);
     } else {
-        rows.remove(c, p);
+        order.rows.remove(c, p);
     }
-    *reach = Relation::empty();
-    *ruled = Relation::empty();
-    if arrange(rows, n, order, reach) {
-        rule_rows(rules, n, m, order, ruled);
+    order.reach = Relation::empty();
+    let arranged = order.arrange(size.n);
+    prepared.ruled = Relation::empty();
+    if arranged {
+        prepared.rule_rows(rules, size);
     }
 }
 
 // The link is stored, what it can touch is settled, and the edit is counted. How many entries differ from before.
 fn apply_link(
-    n: u16,
-    m: u16,
+    prepared: &mut Prepared,
+    size: Size,
     links: &mut [u8],
     rules: &[u16],
     entries: &mut [u16],
     tally: &mut [u32],
     disputes: &mut [u16],
-    rows: &mut Relation,
-    order: &mut [u8; 128],
-    reach: &mut Relation,
-    ruled: &mut Relation,
     caller: Caller,
     child: Kind,
     parent: Kind,
     adding: bool,
 ) -> u16
-    requires known_and_in_range { (Known n m (lent links.old rules.now entries.old tally.old disputes.old) rows.old order.old reach.old ruled.old) × (caller.0 < callers) × (child.0 < n) × (parent.0 < n) }
-    requires acyclic_after { Acyclic n (up_of n (linked n links.old child.0 parent.0 adding)) }
-    ensures { (leaves (given result) (lent links.new rules.now entries.new tally.new disputes.new)
-        ≡ accepted n m (lent links.old rules.now entries.old tally.old disputes.old) caller.0
-        (linked n links.old child.0 parent.0 adding) rules.now)
-        × (Tracked n m (lent links.new rules.now entries.new tally.new disputes.new) rows.new order.new reach.new ruled.new) }
+    requires known { Known size.n size.m (lent links.old rules.now entries.old tally.old disputes.old) prepared.old }
+    requires in_range { (caller.0 < callers) × (child.0 < size.n) × (parent.0 < size.n) }
+    requires acyclic_after { Acyclic size.n (up_of size.n (linked size.n links.old child.0 parent.0 adding)) }
+    ensures outcome { leaves (given result) (lent links.new rules.now entries.new tally.new disputes.new)
+        ≡ accepted size.n size.m (lent links.old rules.now entries.old tally.old disputes.old) caller.0
+        (linked size.n links.old child.0 parent.0 adding) rules.now }
+    ensures tracked { Tracked size.n size.m (lent links.new rules.now entries.new tally.new disputes.new) prepared.new }
 {
-    let kinds = n as usize;
-    let marks = m as usize;
-    links[link_place(child, parent, n)] = adding as u8;
-    relink(
-        kinds, marks, rules, rows, order, reach, ruled, child, parent, adding,
-    );
-    let count = resettle_link(
-        rows, order, reach, ruled, kinds, marks, child, rules, entries, disputes,
-    );
+    links[size.link_place(child, parent)] = u8::from(adding);
+    relink(prepared, size, rules, child, parent, adding);
+    let count = resettle_link(prepared, size, child, rules, entries, disputes);
     count_edit(tally, caller);
     count
 }
 
 /// The link between two kinds of the book is added or taken.
 pub fn set_link(
-    n: u16,
-    m: u16,
+    prepared: &mut Prepared,
+    size: Size,
     links: &mut [u8],
     rules: &[u16],
     entries: &mut [u16],
     tally: &mut [u32],
     disputes: &mut [u16],
-    rows: &mut Relation,
-    order: &mut [u8; 128],
-    reach: &mut Relation,
-    ruled: &mut Relation,
     caller: Caller,
     child: Kind,
     parent: Kind,
     adding: bool,
 ) -> Result<u16, Refusal>
-    requires { (Known n m (lent links.old rules.now entries.old tally.old disputes.old) rows.old order.old reach.old ruled.old) × (caller.0 < callers) × (child.0 < n) × (parent.0 < n) }
-    ensures { (leaves (replied result) (lent links.new rules.now entries.new tally.new disputes.new)
-        ≡ link_edit n m (lent links.old rules.now entries.old tally.old disputes.old) caller.0 child.0 parent.0 adding)
-        × (Tracked n m (lent links.new rules.now entries.new tally.new disputes.new) rows.new order.new reach.new ruled.new) }
+    requires known { Known size.n size.m (lent links.old rules.now entries.old tally.old disputes.old) prepared.old }
+    requires in_range { (caller.0 < callers) × (child.0 < size.n) × (parent.0 < size.n) }
+    ensures outcome { leaves (replied result) (lent links.new rules.now entries.new tally.new disputes.new)
+        ≡ link_edit size.n size.m (lent links.old rules.now entries.old tally.old disputes.old) caller.0 child.0 parent.0 adding }
+    ensures tracked { Tracked size.n size.m (lent links.new rules.now entries.new tally.new disputes.new) prepared.new }
 {
-    let at = reach.row(child.0 as usize).first(0, 128).unwrap();
-    judge(rows, reach, child, parent, at, adding)?;
+    let order = &prepared.order;
+    let at = order.reach.row(usize::from(child.0)).min().unwrap();
+    judge(order, child, parent, at, adding)?;
     Ok(apply_link(
-        n, m, links, rules, entries, tally, disputes, rows, order, reach, ruled, caller, child,
-        parent, adding,
+        prepared, size, links, rules, entries, tally, disputes, caller, child, parent, adding,
     ))
 }

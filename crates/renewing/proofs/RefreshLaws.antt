@@ -6,7 +6,7 @@ use mathlib.Core.Path.{◌≡◌, refl, sym, ◌∙◌}
 use mathlib.Core.Bool.{Bool, true, false}
 use mathlib.Core.List.{List}
 use Prim.Native.Nat.{ℕ}
-use Rattle.relation.specs.declared.Relation.{Relation}
+use Rattle.arranging.specs.declared.Order.{Order}
 use Rattle.relation.specs.Bit.{bit}
 use Rattle.settling.specs.Settled.{AllSettled}
 use Rattle.settling.proofs.WholeLaws.{settle_ready}
@@ -17,8 +17,8 @@ use Rattle.tables.specs.Tables.{Tables, lent, shaped, links_right}
 use Rattle.tables.specs.Calls.{leaves, check, refresh}
 
 module _ (n m : ℕ) (t : Tables) where
-  pub refresh_done : {rows : Relation} {order : List ℕ} {reach : Relation} {entries disputes : List ℕ} {linked : Bool} {count : ℕ} → shaped n m t ≡ true → LinksExamined n t.links rows order reach linked → linked ≡ true
-      → AllSettled n m (bit rows) t.rules t.entries entries disputes count → leaves (given count) (lent t.links t.rules entries t.tally disputes) ≡ refresh n m t
+  pub refresh_done : {order : Order} {entries disputes : List ℕ} {linked : Bool} {count : ℕ} → shaped n m t ≡ true → LinksExamined n t.links order linked → linked ≡ true
+      → AllSettled n m (bit order.rows) t.rules t.entries entries disputes count → leaves (given count) (lent t.links t.rules entries t.tally disputes) ≡ refresh n m t
   unfolding refresh check
   refresh_done is x found s =
       let r = settle_ready n m t is t.entries refl refl in

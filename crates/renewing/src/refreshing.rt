@@ -1,4 +1,5 @@
 // Refresh: every entry becomes its lookup, and every dispute count that of its mark.
+// A `Size` is made by `as`: its numbers have to be known by computation, and `from` is a call.
 ghost use Rattle.std.specs.Prelude.{◌≡◌, OnErr};
 ghost use Rattle.books.specs.Lent.{SameBook, tables_of};
 ghost use Rattle.tables.specs.Calls.{leaves, refresh};
@@ -6,10 +7,10 @@ ghost use Rattle.tables.specs.Reply.{replied};
 ghost use Rattle.tables.specs.Tables.{lent};
 
 use books::{Book, Tables};
-use relation::Relation;
+use ruling::Prepared;
 use settling::settle_all;
 use soundness::examine_links;
-use tables::Refusal;
+use tables::{Refusal, Size};
 
 /// Refresh on tables that are lent apart, as C lends them: it writes two of the five. Every entry becomes its lookup, and the dispute
 /// counts follow. Both are written where they are lent, so the links are judged before the first. How many entries differ from before.
@@ -37,16 +38,16 @@ pub fn refresh_tables(
     if !lent.is_shaped() {
         return Err(Refusal::Shape);
     }
-    let mut rows = Relation::empty();
-    let mut order = [0u8; 128];
-    let mut reach = Relation::empty();
-    let linked = examine_links(n as usize, links, &mut rows, &mut order, &mut reach);
+    let size = Size {
+        n: n as usize,
+        m: m as usize,
+    };
+    let mut prepared = Prepared::empty();
+    let linked = examine_links(size.n, links, &mut prepared.order);
     if !linked {
         return Err(Refusal::Unsound);
     }
-    let count = settle_all(
-        &rows, &order, &reach, n as usize, m as usize, rules, entries, disputes,
-    );
+    let count = settle_all(&mut prepared, size, rules, entries, disputes);
     Ok(count)
 }
 

@@ -1,4 +1,5 @@
 // The tables of a book replaced by others that are sound. Nothing is written before these are known to be.
+// A `Size` is made by `as`: its numbers have to be known by computation, and `from` is a call.
 #![tactic(auto)]
 
 ghost use Rattle.std.specs.Prelude.{◌≡◌, true, List, ℕ, ◌*◌, ◌<◌, OnErr, length};
@@ -11,24 +12,18 @@ ghost use Rattle.replacing.specs.Replaced.{replaced};
 
 use books::Book;
 use copying::count_differing;
-use relation::Relation;
 use resettling::count_edit;
+use ruling::Prepared;
 use soundness::examine;
-use tables::{Caller, Refusal};
+use tables::{Caller, Refusal, Size};
 
 // Whether tables are sound.
-fn is_sound(n: u16, m: u16, links: &[u8], rules: &[u16], entries: &[u16], disputes: &[u16]) -> bool
-    requires { (Sized n m rules.now entries.now) × (length links.now ≡ n * n) × (length disputes.now ≡ m) }
-    ensures { (tally : List ℕ) → result ≡ sound n m (lent links.now rules.now entries.now tally disputes.now) }
+fn is_sound(size: Size, links: &[u8], rules: &[u16], entries: &[u16], disputes: &[u16]) -> bool
+    requires { (Sized size.n size.m rules.now entries.now) × (length links.now ≡ size.n * size.n) × (length disputes.now ≡ size.m) }
+    ensures { (tally : List ℕ) → result ≡ sound size.n size.m (lent links.now rules.now entries.now tally disputes.now) }
 {
-    let mut rows = Relation::empty();
-    let mut order = [0u8; 128];
-    let mut reach = Relation::empty();
-    let mut ruled = Relation::empty();
-    examine(
-        n as usize, m as usize, links, rules, entries, disputes, &mut rows, &mut order, &mut reach,
-        &mut ruled,
-    )
+    let mut prepared = Prepared::empty();
+    examine(size, links, rules, entries, disputes, &mut prepared)
 }
 
 /// A book's tables become new ones, if these are sound. The tally is the book's own and counts one edit more.
@@ -48,9 +43,11 @@ pub fn replace(
         (lent new_links.now new_rules.now new_entries.now (tallied caller.0 book.old.tally.now) new_disputes.now) }
     ensures refused { OnErr result (tables_of book.new ≡ tables_of book.old) }
 {
-    let n = book.n;
-    let m = book.m;
-    let sound = is_sound(n, m, new_links, new_rules, new_entries, new_disputes);
+    let size = Size {
+        n: book.n as usize,
+        m: book.m as usize,
+    };
+    let sound = is_sound(size, new_links, new_rules, new_entries, new_disputes);
     if !sound {
         return Err(Refusal::Unsound);
     }

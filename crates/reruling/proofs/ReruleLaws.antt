@@ -16,7 +16,8 @@ use Rattle.counting.specs.Counting.{Counted}
 use Rattle.relation.specs.declared.Relation.{Relation}
 use Rattle.relation.specs.Bit.{bit}
 use Rattle.relation.specs.First.{First}
-use Rattle.deciding.specs.Deciding.{Prepared}
+use Rattle.ruling.specs.declared.Prepared.{Prepared}
+use Rattle.ruling.specs.Ready.{Ready}
 use Rattle.deciding.proofs.Preparing.{kind_place, prepared_set}
 use Rattle.settling.specs.Settled.{Settled}
 use Rattle.settling.proofs.Editing.{rule_awaiting, rule_settled}
@@ -41,12 +42,13 @@ module _ (n m : ℕ) {rules entries : List ℕ} (s : Sized n m rules entries) (k
     entries_size = s.entries_size;
   }
 
-  pub rule_prepared : {rows : Relation} {order : List ℕ} {reach ruled new : Relation} {place : ℕ} → Prepared n m rows rules order reach ruled → First (bit reach kind) 0 128 place
-      → Reset mark place (not (eqb handling 0)) ruled new → Prepared n m rows (set rules i handling) order reach new
-  rule_prepared {rows} {order} {reach} {ruled} {new} {place} p first r =
-      let (within, is) = kind_place n rows order reach p.arranged s.kinds kind kind_in first in
+  -- `new` are the rows of the rule kinds after the change
+  pub rule_prepared : {d : Prepared} {new : Relation} {place : ℕ} → Ready n m rules d → First (bit d.order.reach kind) 0 128 place
+      → Reset mark place (not (eqb handling 0)) d.ruled new → Ready n m (set rules i handling) (record d { ruled = new })
+  rule_prepared {d} {new} {place} p first r =
+      let (within, is) = kind_place n d.order.rows d.order.kinds d.order.reach p.arranged s.kinds kind kind_in first in
       rw at
-      (prepared_set m rules kind mark handling mark-in n s.rules_size rows order reach ruled new place within is p
+      (prepared_set m rules kind mark handling mark-in n s.rules_size d new place within is p
       (λ before here. changed (not (eqb handling 0)) here before) (λ b. refl) (λ b. refl) r.bits)
 
   pub rule_applied : {caller : ℕ} {up : ℕ → ℕ → Bool} {new before tally disputes : List ℕ} {count : ℕ} → Settled n m mark (mark + 1) up (set rules i handling) entries new count
@@ -57,7 +59,10 @@ module _ (n m : ℕ) {rules entries : List ℕ} (s : Sized n m rules entries) (k
 -- ---- the edit, on tables that are known to be sound
 
 module _ (n m : ℕ) (t : Tables) (kind mark handling : ℕ) where
-  module _ {rows : Relation} {order : List ℕ} {reach ruled : Relation} (k : Known n m t rows order reach ruled) (mark-in : mark < m) where
+  module _ {d : Prepared} (k : Known n m t d) (mark-in : mark < m) where
+    abbrev rows : Relation
+    rows = d.order.rows
+
     pub rule_untouched : RuleUntouched n m kind mark (bit rows) (stored m t.rules kind mark handling) t.entries
     unfolding Untouched
     rule_untouched =

@@ -21,6 +21,7 @@ use Rattle.relation.specs.declared.Relation.{Relation}
 use Rattle.relation.specs.Bit.{bit, holds, row_of}
 use Rattle.relation.specs.First.{First, Found}
 use Rattle.loading.specs.Loaded.{Loaded}
+use Rattle.ruling.specs.declared.Prepared.{Prepared}
 use Rattle.soundness.specs.Examined.{Examined}
 use Rattle.settling.proofs.Editing.{Accepted}
 use Rattle.deciding.proofs.Preparing.{kind_place, place_found}
@@ -41,9 +42,9 @@ module _ (n m : ℕ) (t : Tables) where
   pub fits_tally : shaped n m t ≡ true → length t.tally ≡ callers
   fits_tally fits = let s = sized_facts 1 1 n m _ _ _ _ _ fits in omega (arith, s.tally_length)
 
-  pub known : (rows : Relation) (order : List ℕ) (reach ruled : Relation) {r : Bool} → shaped n m t ≡ true → Examined n m t.links t.rules t.entries t.disputes rows order reach ruled r → r ≡ true
-      → Known n m t rows order reach ruled
-  known rows order reach ruled fits examined found = record {
+  pub known : (p : Prepared) {r : Bool} → shaped n m t ≡ true → Examined n m t.links t.rules t.entries t.disputes p r → r ≡ true
+      → Known n m t p
+  known p fits examined found = record {
     fits = fits;
     is_sound = sym (examined.answer t.tally) ∙ found;
     tracked = record { loaded = examined.loaded found; prepared = examined.prepared found };
@@ -59,7 +60,10 @@ module _ (n m : ℕ) (t : Tables) where
       let counted = counts_of n m (ap length a.0 ∙ length_entries_of n m (bit rows) rules) lengths.marks.0 counts in
       rw (counted, a.0, a.1, same) refl
 
-module _ {n m : ℕ} {t : Tables} {rows : Relation} {order : List ℕ} {reach ruled : Relation} (k : Known n m t rows order reach ruled) where
+module _ {n m : ℕ} {t : Tables} {p : Prepared} (k : Known n m t p) where
+  abbrev rows : Relation
+  rows = p.order.rows
+
   pub has : Passed n m t
   has = passed n m t k.fits k.is_sound
 
@@ -76,9 +80,9 @@ module _ {n m : ℕ} {t : Tables} {rows : Relation} {order : List ℕ} {reach ru
   pub counts : Counted m t.entries t.disputes
   counts = counted n m has.sizes.entries_size has.sizes.kinds has.before.disputes
 
-  pub known_place : (c : ℕ) → c < n → {i : ℕ} → First (bit reach c) 0 128 i → (i < n) × (get_or order i 0 ≡ c)
-  known_place c h first = kind_place n rows order reach k.tracked.prepared.arranged has.sizes.kinds c h first
+  pub known_place : (c : ℕ) → c < n → {i : ℕ} → First (bit p.order.reach c) 0 128 i → (i < n) × (get_or p.order.kinds i 0 ≡ c)
+  known_place c h first = kind_place n rows p.order.kinds p.order.reach k.tracked.prepared.arranged has.sizes.kinds c h first
 
-  pub known_place_found : (c : ℕ) → c < n → {answer : Option ℕ} → Found (holds (row_of reach c)) 0 128 answer
-      → IsSome answer × ((i : ℕ) → answer ≡ Some i → First (bit reach c) 0 128 i)
-  known_place_found c h {answer} found = place_found n rows order reach k.tracked.prepared.arranged has.sizes.kinds c h answer found
+  pub known_place_found : (c : ℕ) → c < n → {answer : Option ℕ} → Found (holds (row_of p.order.reach c)) 0 128 answer
+      → IsSome answer × ((i : ℕ) → answer ≡ Some i → First (bit p.order.reach c) 0 128 i)
+  known_place_found c h {answer} found = place_found n rows p.order.kinds p.order.reach k.tracked.prepared.arranged has.sizes.kinds c h answer found

@@ -4,12 +4,12 @@ ghost use Rattle.tables.specs.Tables.{tallied};
 
 use tables::Caller;
 
-// One more accepted edit of a caller. The largest number stays.
+/// One more accepted edit of a caller. The largest number stays.
 pub fn count_edit(tally: &mut [u32], caller: Caller)
     requires { caller.0 < length tally.old }
     ensures { tally.new ≡ tallied caller.0 tally.old }
 {
-    let place = caller.0 as usize;
+    let place = usize::from(caller.0);
     let edits = tally[place];
     if edits < 4294967295 {
         tally[place] = edits + 1;

@@ -29,10 +29,11 @@ fn bring_back(book: &mut Book, store: &Store, caller: Caller, name: Name) -> Res
         ≡ replaced book.old.n book.old.m (tables_of book.old) (state_at book.old.n book.old.m (store_read store.now) name.0 (tallied caller.0 book.old.tally.now)) }
     ensures refused { OnErr result (tables_of book.new ≡ tables_of book.old) }
 {
-    let number = name.0 as usize;
-    let marks = book.m as usize;
-    let pairs = book.n as usize * book.n as usize;
-    let places = book.n as usize * marks;
+    let number = usize::from(name.0);
+    let kinds = usize::from(book.n);
+    let marks = usize::from(book.m);
+    let pairs = kinds * kinds;
+    let places = kinds * marks;
     let link = number * pairs;
     let place = number * places;
     let mark = number * marks;

@@ -1,4 +1,6 @@
-// The edits of a rule. Nothing is written before the tables are known to be sound.
+// The edits of a rule. Nothing is written before the tables are known to be sound. C lends the links to read only, so these functions, and
+// those below and in `link_edits`, take the tables one by one and not as a `Book`.
+// A `Size` is made by `as`: its numbers have to be known by computation, and `from` is a call.
 #![tactic(auto)]
 
 ghost use Rattle.std.specs.Prelude.{◌≡◌, true, ◌<◌};
@@ -11,15 +13,14 @@ ghost use Rattle.rule_edits.specs.RuleEdit.{rule_call};
 
 use books::{Tables, ask_rule};
 use inheritance::{Kind, Mark};
-use relation::Relation;
 use reruling::set_rule;
+use ruling::Prepared;
 use soundness::examine;
-use tables::{Caller, Refusal};
+use tables::{Caller, Refusal, Size};
 
-/// The rule of a kind of the book for a mark of it is set, and a handling of 0 takes it.
+// The rule of a kind of the book for a mark of it is set, and a handling of 0 takes it.
 fn edit_rule(
-    n: u16,
-    m: u16,
+    size: Size,
     links: &[u8],
     rules: &mut [u16],
     entries: &mut [u16],
@@ -30,28 +31,32 @@ fn edit_rule(
     mark: Mark,
     handling: u16,
 ) -> Result<u16, Refusal>
-    requires { (shaped n m (lent links.now rules.old entries.old tally.old disputes.old) ≡ true) × (caller.0 < callers) × (kind.0 < n) × (mark.0 < m) }
+    requires shaped { shaped size.n size.m (lent links.now rules.old entries.old tally.old disputes.old) ≡ true }
+    requires in_range { (caller.0 < callers) × (kind.0 < size.n) × (mark.0 < size.m) }
     ensures { leaves (replied result) (lent links.now rules.new entries.new tally.new disputes.new)
-        ≡ rule_edit n m (lent links.now rules.old entries.old tally.old disputes.old) caller.0 kind.0 mark.0 handling }
+        ≡ rule_edit size.n size.m (lent links.now rules.old entries.old tally.old disputes.old) caller.0 kind.0 mark.0 handling }
 {
-    let mut rows = Relation::empty();
-    let mut order = [0u8; 128];
-    let mut reach = Relation::empty();
-    let mut ruled = Relation::empty();
-    let sound = examine(
-        n as usize, m as usize, links, rules, entries, disputes, &mut rows, &mut order, &mut reach,
-        &mut ruled,
-    );
+    let mut prepared = Prepared::empty();
+    let sound = examine(size, links, rules, entries, disputes, &mut prepared);
     if !sound {
         return Err(Refusal::Unsound);
     }
     set_rule(
-        n, m, links, rules, entries, tally, disputes, &rows, &order, &reach, &mut ruled, caller,
-        kind, mark, handling,
+        &mut prepared,
+        size,
+        links,
+        rules,
+        entries,
+        tally,
+        disputes,
+        caller,
+        kind,
+        mark,
+        handling,
     )
 }
 
-/// The rule of any kind for any mark is set, or taken where no handling is given.
+// The rule of any kind for any mark is set, or taken where no handling is given.
 fn change_rule(
     n: u16,
     m: u16,
@@ -80,8 +85,12 @@ fn change_rule(
     let by = lent.ask_caller(caller)?;
     let (kind, mark) = ask_rule(n, m, kind, mark, handling)?;
     let stored = handling.unwrap_or(0);
+    let size = Size {
+        n: n as usize,
+        m: m as usize,
+    };
     edit_rule(
-        n, m, links, rules, entries, tally, disputes, by, kind, mark, stored,
+        size, links, rules, entries, tally, disputes, by, kind, mark, stored,
     )
 }
 

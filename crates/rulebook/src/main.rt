@@ -8,7 +8,6 @@ use arrayvec::ArrayVec;
 use session::Desk;
 use std::io::Read;
 use stream::{BLOCK, OUTPUT};
-use tables::TALLIES;
 
 // Reads a block, and answers how many bytes came: 0 at the end of the input. An input that cannot be read is said, and ends there.
 fn read<R: Eprint>(rt: &R, input: &mut impl Read, block: &mut [u8; BLOCK]) -> usize {
@@ -35,7 +34,7 @@ fn write<R: Print + Eprint>(rt: &R, out: &[u8; OUTPUT], waiting: usize) -> bool
 }
 
 // Answers the whole input, block by block. After a write that failed there is nobody to answer, and nothing more is written. A proved loop
-// has to end, and nothing says that the input does: the turns are a number that no run uses up.
+// has to end, and nothing says that the input does: the turns are a number, which no run uses up.
 #[tactic(auto, using(stream::proofs::BufferLaws::put_fits))]
 fn run<R: Input + Print + Eprint>(
     rt: &R,
@@ -59,20 +58,9 @@ fn run<R: Input + Print + Eprint>(
     write(rt, out, waiting);
 }
 
-// The tables of the largest book, and the buffers.
+// The desk, and the buffers.
 fn main(rt: HostRuntime) {
-    let mut links = [0; 16384];
-    let mut rules = [0; 8192];
-    let mut entries = [0; 8192];
-    let mut tally = [0; TALLIES];
-    let mut disputes = [0; 64];
-    let mut desk = Desk::new(
-        &mut links,
-        &mut rules,
-        &mut entries,
-        &mut tally,
-        &mut disputes,
-    );
+    let mut desk = Desk::new();
     let mut block = [0; BLOCK];
     let mut carry = ArrayVec::new();
     let mut out = [0; OUTPUT];

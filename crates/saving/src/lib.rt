@@ -26,10 +26,11 @@ pub fn save(tables: &Tables, store: &mut StoreMut, name: Name) -> Result<(), Ref
         return Err(Refusal::Shape);
     }
     let known = Name::new(name.0).ok_or(Refusal::Name)?;
-    let number = known.0 as usize;
-    let marks = tables.m as usize;
-    let pairs = tables.n as usize * tables.n as usize;
-    let places = tables.n as usize * marks;
+    let number = usize::from(known.0);
+    let kinds = usize::from(tables.n);
+    let marks = usize::from(tables.m);
+    let pairs = kinds * kinds;
+    let places = kinds * marks;
     let flags = &mut *store.flags;
     let links = &mut *store.links;
     let rules = &mut *store.rules;

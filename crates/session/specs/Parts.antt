@@ -4,7 +4,7 @@
 --     put_in       a book's tables put at the front of theirs; what lies behind stays
 --     size_after   the size of the book after an answer
 --     Carried      what a call leaves in the tables
---     tables_on, book_on    the tables of a desk, and the book that stands in them; SameDesk: the tables are lent to both
+--     tables_on, book_on    the tables of a desk, and the book that stands in them
 --     Answered     what a line leaves in the program, by the turn that it is. Line after line, `book` is what the next line's turn is done to
 -- Assumes nothing.
 use Rattle.std.specs.Prelude.{◌≡◌, List, ◌++◌, ℕ, ◌*◌, length, take, drop}
@@ -51,18 +51,10 @@ pub record Carried (call : Call) (before : Tables) (answer : Answer) (after : Ta
   pub tables : after ≡ put_in (parts call.n call.m after) before
 
 abbrev pub tables_on : Desk → Tables
-tables_on d = lent d.links.now d.rules.now d.entries.now d.tally.now d.disputes.now
+tables_on d = lent d.links d.rules d.entries d.tally d.disputes
 
 abbrev pub book_on : Desk → Book
 book_on d = book_in d.n d.m (tables_on d)
-
--- a desk with the same tables
-pub record SameDesk (old new : Desk) : Type 0 where
-  pub links : new.links.ghost_name ≡ old.links.ghost_name
-  pub rules : new.rules.ghost_name ≡ old.rules.ghost_name
-  pub entries : new.entries.ghost_name ≡ old.entries.ghost_name
-  pub tally : new.tally.ghost_name ≡ old.tally.ghost_name
-  pub disputes : new.disputes.ghost_name ≡ old.disputes.ghost_name
 
 -- `turn` was done to the book: the book after it stands in the leading parts of the tables, what lies behind stays, and its answer was printed
 pub record Answered (turn : Book → Turn) (before after : Desk) (text : List ℕ) : Type 0 where

@@ -1,14 +1,13 @@
 // One line of the text program: the call that it asks for is carried out on the leading parts of the program's tables, and the answer is printed.
 #![tactic(auto)]
 
-ghost use Rattle.std.specs.Prelude.{◌≡◌, replicate};
-ghost use Rattle.tables.specs.Caller.{callers};
+ghost use Rattle.std.specs.Prelude.{◌≡◌};
 ghost use Rattle.tables.specs.Books.{call_of, answered, gives, outcome};
 ghost use Rattle.tables.specs.Tables.{lent};
 ghost use Rattle.forms.specs.Requests.{OfBook};
 ghost use Rattle.session.specs.Line.{carries, line_of};
 ghost use Rattle.session.specs.Session.{start};
-ghost use Rattle.session.specs.Parts.{Room, book_on, size_after, SameDesk, Carried, Answered};
+ghost use Rattle.session.specs.Parts.{Room, book_on, size_after, Carried, Answered};
 
 use answers::{print_answer, print_refused};
 use arrayvec::ArrayString;
@@ -18,40 +17,34 @@ use tables::{Answer, Call, Refusal, TALLIES};
 /// The program's tables, which have places for 128 kinds and 64 marks, and the size of the book that stands in their leading parts. Before an
 /// accepted open, n and m are 0.
 #[derive(Drop)]
-pub struct Desk<'a> {
+pub struct Desk {
     pub n: u16,
     pub m: u16,
-    pub links: &'a mut [u8; 16384],
-    pub rules: &'a mut [u16; 8192],
-    pub entries: &'a mut [u16; 8192],
-    pub tally: &'a mut [u32; TALLIES],
-    pub disputes: &'a mut [u16; 64],
+    pub links: [u8; 16384],
+    pub rules: [u16; 8192],
+    pub entries: [u16; 8192],
+    pub tally: [u32; TALLIES],
+    pub disputes: [u16; 64],
 }
 
-impl<'a> Desk<'a> {
-    /// The desk before the first line, on tables where no edit is counted yet.
-    pub fn new(
-        links: &'a mut [u8; 16384],
-        rules: &'a mut [u16; 8192],
-        entries: &'a mut [u16; 8192],
-        tally: &'a mut [u32; TALLIES],
-        disputes: &'a mut [u16; 64],
-    ) -> Desk<'a>
-        ensures { tally.old ≡ replicate callers 0 → book_on result ≡ start }
+impl Desk {
+    /// The desk before the first line, where no edit is counted yet.
+    pub fn new() -> Desk
+        ensures { book_on result ≡ start }
     {
         Desk {
             n: 0,
             m: 0,
-            links,
-            rules,
-            entries,
-            tally,
-            disputes,
+            links: [0; 16384],
+            rules: [0; 8192],
+            entries: [0; 8192],
+            tally: [0; TALLIES],
+            disputes: [0; 64],
         }
     }
 }
 
-// The size of the book after a call, by its answer: an accepted open has the size that it names taken over.
+// The size of the book after a call, by its answer: an accepted open has the size that it names taken over. n and m are 0 before the first.
 fn size_after(answer: Answer, call: Call, n: u16, m: u16) -> (u16, u16)
     ensures { result ≡ size_after n m (call_of call) (answered answer) }
 {
@@ -65,7 +58,7 @@ fn size_after(answer: Answer, call: Call, n: u16, m: u16) -> (u16, u16)
     }
 }
 
-// Carries a call out on a book whose tables are lent apart.
+// Carries a call out on a book whose tables are lent apart: the leading parts of arrays come back whole as arguments alone.
 fn carry_lent(
     call: Call,
     links: &mut [u8],
@@ -121,15 +114,16 @@ fn carry_out(
 // Carries a call out on the book, and prints its answer.
 fn carry(desk: &mut Desk, call: Call, text: &mut ArrayString<64>)
     requires { OfBook desk.old.n desk.old.m (call_of call) }
-    ensures same { SameDesk desk.old desk.new }
-    ensures answered { Answered (λ b. carries b (call_of call)) desk.old desk.new text.new.bytes }
+    ensures { Answered (λ b. carries b (call_of call)) desk.old desk.new text.new.bytes }
 {
-    let links = &mut *desk.links;
-    let rules = &mut *desk.rules;
-    let entries = &mut *desk.entries;
-    let tally = &mut *desk.tally;
-    let disputes = &mut *desk.disputes;
-    let answer = carry_out(call, links, rules, entries, tally, disputes);
+    let answer = carry_out(
+        call,
+        &mut desk.links,
+        &mut desk.rules,
+        &mut desk.entries,
+        &mut desk.tally,
+        &mut desk.disputes,
+    );
     let (n, m) = size_after(answer, call, desk.n, desk.m);
     desk.n = n;
     desk.m = m;
@@ -138,8 +132,7 @@ fn carry(desk: &mut Desk, call: Call, text: &mut ArrayString<64>)
 
 /// One line, which comes without its line feed: what it asks for is done to the book, and its answer takes the text's place.
 pub fn line(desk: &mut Desk, input: &[u8], text: &mut ArrayString<64>)
-    ensures same { SameDesk desk.old desk.new }
-    ensures answered { Answered (λ b. line_of b input.now) desk.old desk.new text.new.bytes }
+    ensures { Answered (λ b. line_of b input.now) desk.old desk.new text.new.bytes }
 {
     match forms::asked(input, desk.n, desk.m) {
         Some(call) => carry(desk, call, text),

@@ -17,6 +17,7 @@ use borrow.Author.Tests.{lt-ltb, leb-true}
 use Rattle.std.proofs.Common.{IsTrue, ◌↔◌}
 use lib.ListN.{length, take, replicate}
 use Rattle.inheritance.proofs.Bools.{same_bool}
+use Rattle.arranging.specs.declared.Order.{Order}
 use Rattle.arranging.specs.Arranged.{Arrangement}
 use Rattle.relation.specs.declared.Relation.{Relation}
 use Rattle.relation.specs.Bit.{bit}
@@ -94,8 +95,8 @@ module _ (n : ℕ) (links : List ℕ) (rows : Relation) (kinds : n ≤ 128) (loa
       ∙ and_holds (bytes_right n links) (well_linked n (up_of n links)) _ _ e
       ∙ sym (sound_by_steps n m (lent links rules entries tally disputes) size (omega arith))
 
-pub examined_entries : {n : ℕ} {links : List ℕ} {rows : Relation} {order : List ℕ} {reach : Relation} {r : Bool} → n ≤ 128 → length links ≡ n * n → LinksExamined n links rows order reach r → r ≡ true
-    → (m : ℕ) (rules : List ℕ) → entries_of n m (bit rows) rules ≡ entries_of n m (up_of n links) rules
-examined_entries {n} {links} {rows} kinds size x found m rules =
+pub examined_entries : {n : ℕ} {links : List ℕ} {order : Order} {r : Bool} → n ≤ 128 → length links ≡ n * n → LinksExamined n links order r → r ≡ true
+    → (m : ℕ) (rules : List ℕ) → entries_of n m (bit order.rows) rules ≡ entries_of n m (up_of n links) rules
+examined_entries {n} {links} {order} kinds size x found m rules =
     let loaded = x.loaded (linked_bytes n links size (sym x.answer ∙ found)) in
-    entries_of_agree n (bit rows) (up_of n links) (rows_links n links rows kinds loaded) m (omega arith) (arranged_acyclic n rows _ _ (x.arranged found)) rules
+    entries_of_agree n (bit order.rows) (up_of n links) (rows_links n links order.rows kinds loaded) m (omega arith) (arranged_acyclic n order.rows _ _ (x.arranged found)) rules

@@ -1,7 +1,7 @@
 -- What holds of a book after any list of calls since it was just opened, saves and returns among them, whatever its store held then.
 --     stays_shaped, stays_sound    its tables have their lengths and are sound
 --     stays_counted                the dispute count of each mark is the number of kinds whose entry for it is 257 or more
---     books_agree                  demand 3, between two books of the same n and m: where every place of links and of rules holds the same number in both
+--     books_agree                  between two books of the same n and m: where every place of links and of rules holds the same number in both
 --                                  books, every place of entries and of the dispute counts does too; their stores need not agree
 --     stored_consistent            every call keeps the invariant that they rest on; stays: so it holds after the list
 -- Assumes nothing.

@@ -1,4 +1,5 @@
-// The store of a book, which holds states with a name: the names, and the lengths of the store's tables.
+// The store of a book, which holds states with a name: the names, refusals 14 and 15, and the store as calls are lent it, with the lengths of
+// its tables.
 #![tactic(auto)]
 
 ghost use Rattle.std.specs.Prelude.{◌≡◌, length};
@@ -17,6 +18,7 @@ impl Name {
     pub const MOST: u16 = 8;
 
     /// The name with this number, if there is one.
+    // One constructor for all such types would give a number that may be any of them.
     pub fn new(number: u16) -> Option<Name>
         ensures { result ≡ name_below number }
     {
@@ -25,6 +27,7 @@ impl Name {
 }
 
 /// How many copies a table of the store has: one for each name.
+// A cast, since `from` is called and is no constant.
 pub const COPIES: usize = Name::MOST as usize;
 
 /// The name of the state that a return is put to, after refusals 14 and 15, in this order. A flag that is not 0, whatever it is, says
@@ -67,12 +70,14 @@ impl Store<'_> {
     pub fn is_shaped(&self, n: u16, m: u16) -> bool
         ensures { result ≡ stored n m (store_read self.now) }
     {
-        let places = n as usize * m as usize;
+        let kinds = usize::from(n);
+        let marks = usize::from(m);
+        let places = kinds * marks;
         (self.flags.len() == COPIES)
-            & (self.links.len() == COPIES * (n as usize * n as usize))
+            & (self.links.len() == COPIES * (kinds * kinds))
             & (self.rules.len() == COPIES * places)
             & (self.entries.len() == COPIES * places)
-            & (self.disputes.len() == COPIES * m as usize)
+            & (self.disputes.len() == COPIES * marks)
     }
 }
 

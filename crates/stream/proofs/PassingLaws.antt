@@ -20,7 +20,7 @@ use Rattle.tables.specs.Lists.{run}
 use Rattle.session.specs.Line.{Book, line_of}
 use Rattle.session.specs.Session.{answers, written}
 use Rattle.session.specs.declared.Desk.{Desk}
-use Rattle.session.specs.Parts.{book_on, SameDesk}
+use Rattle.session.specs.Parts.{book_on}
 use Rattle.stream.specs.Buffers.{cut}
 use Rattle.stream.specs.Stream.{ended, begun, Passed, passed}
 use Rattle.stream.specs.Buffers.{Put}
@@ -51,17 +51,6 @@ passed_end b partial (x ∷ block) none =
     passed_byte b partial x block (no_feed_first x block none)
     ∙ passed_end b (partial ++ (x ∷ [])) block (no_feed_rest x block none)
     ∙ rw (append_assoc partial (x ∷ []) block)
-
--- the same tables are lent to the desk before and after two steps
-pub same_on : {a b c : Desk} → SameDesk a b → SameDesk b c → SameDesk a c
-same_on p q =
-    record {
-      links = q.links ∙ p.links;
-      rules = q.rules ∙ p.rules;
-      entries = q.entries ∙ p.entries;
-      tally = q.tally ∙ p.tally;
-      disputes = q.disputes ∙ p.disputes;
-    }
 
 -- the bytes of a block from one place up to another have no line feed
 abbrev pub NoneBetween : (block : List ℕ) (from end : ℕ) → Type 0

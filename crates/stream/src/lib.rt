@@ -5,7 +5,7 @@ mod buffers;
 
 ghost use Rattle.std.specs.Prelude.{◌≡◌, [], ◌++◌, ◌+◌, ◌*◌, ◌≤◌, length, take};
 ghost use Rattle.session.specs.Line.{line_of};
-ghost use Rattle.session.specs.Parts.{book_on, SameDesk};
+ghost use Rattle.session.specs.Parts.{book_on};
 ghost use Rattle.stream.specs.Stream.{passed, closed};
 ghost use Rattle.stream.specs.Blocks.{Replied, Worked, Closed};
 
@@ -17,14 +17,14 @@ use session::Desk;
 /// line feed takes at most 17.
 pub const BLOCK: usize = 32768;
 
+/// The bytes of an output.
 // An array, and no string that grows: the program has no heap.
 pub const OUTPUT: usize = 17 * BLOCK;
 
 // Carries out a line in the book, and has its answer, with a line feed, wait in the output behind those before it.
 fn answer(desk: &mut Desk, line: &[u8], out: &mut [u8], waiting: usize) -> usize
     requires { waiting + 17 ≤ length out.old }
-    ensures same { SameDesk desk.old desk.new }
-    ensures replied { Replied (line_of (book_on desk.old) line.now) waiting out.old desk.new result out.new }
+    ensures { Replied (line_of (book_on desk.old) line.now) waiting out.old desk.new result out.new }
 {
     let mut text = ArrayString::new();
     session::line(desk, line, &mut text);
@@ -40,7 +40,6 @@ fn finish(
     waiting: usize,
 ) -> usize
     requires { waiting + 17 ≤ length out.old }
-    ensures same { SameDesk desk.old desk.new }
     ensures empty { carry.new.items ≡ [] }
     ensures replied { Replied (line_of (book_on desk.old) (carry.old.items ++ part.now)) waiting out.old desk.new result out.new }
 {
@@ -62,11 +61,11 @@ fn lines(
     start: usize,
 ) -> usize
     requires { start + 17 * length block.now ≤ length out.old }
-    ensures same { SameDesk desk.old desk.new }
-    ensures worked { Worked (passed (book_on desk.old) carry.old.items block.now) start out.old desk.new carry.new.items result out.new }
+    ensures { Worked (passed (book_on desk.old) carry.old.items block.now) start out.old desk.new carry.new.items result out.new }
 {
     let mut waiting = start;
     let mut from = 0;
+    // by number: the place is what is wanted
     for end in 0..block.len() {
         if block[end] == b'\n' {
             waiting = finish(desk, &block[from..end], carry, out, waiting);
@@ -86,8 +85,7 @@ pub fn work(
     carry: &mut ArrayVec<u8, 65>,
     out: &mut [u8; OUTPUT],
 ) -> usize
-    ensures same { SameDesk desk.old desk.new }
-    ensures worked { Worked (passed (book_on desk.old) carry.old.items (take count block.now)) 0 out.old desk.new carry.new.items result out.new }
+    ensures { Worked (passed (book_on desk.old) carry.old.items (take count block.now)) 0 out.old desk.new carry.new.items result out.new }
 {
     let size = count.min(BLOCK);
     lines(desk, &block[..size], carry, out, 0)
@@ -95,8 +93,7 @@ pub fn work(
 
 /// Answers the last line if it has a byte. The answer stands at the front of the output. How many bytes it has.
 pub fn close(desk: &mut Desk, carry: &ArrayVec<u8, 65>, out: &mut [u8; OUTPUT]) -> usize
-    ensures same { SameDesk desk.old desk.new }
-    ensures closed { Closed (closed (book_on desk.old) carry.now.items) out.old desk.new result out.new }
+    ensures { Closed (closed (book_on desk.old) carry.now.items) out.old desk.new result out.new }
 {
     if carry.is_empty() {
         return 0;

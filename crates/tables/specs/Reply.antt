@@ -1,7 +1,8 @@
 -- What a call answers, in the numbers and values of docs/SCOPE.md, and which case of the code's enums stands for which.
 --     Reply              a refusal with its number, or what the call gives
 --     Finding            what find gives; Fault: what inspect gives; TwoKinds: what parties gives; Listing: what a list of edits gives
---     refusal_number     the number of each refusal
+--     listed             a whole list of edits, or one that stopped at an edit, by the code's values
+--     refusal_number     the number of each refusal; Numbered: that a refusal is converted to it
 --     replied, replied_as                        the reply that the code's answer stands for
 --     found_of, kinds_of, fault_in, listing_of   the number and values of each case of what it gives
 -- Assumes nothing.

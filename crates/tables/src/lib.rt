@@ -1,12 +1,15 @@
 // Callers, refusals, calls as values and what they answer, and the places of the tables.
 #![tactic(auto)]
 
+mod size;
+
 ghost use Rattle.std.specs.Prelude.{◌≡◌, ◌+◌, ◌*◌};
 ghost use Rattle.tables.specs.Caller.{caller_below};
 ghost use Rattle.tables.specs.Lists.{Recorded};
 ghost use Rattle.tables.specs.Reply.{Numbered};
 
 use inheritance::{Kind, Mark};
+pub use size::{Marks, Size};
 
 /// Who enters an edit: each caller has a number of the tally.
 #[derive(Clone, Copy, Debug, PartialEq, Eq, PartialOrd, Ord, Hash)]
@@ -114,6 +117,7 @@ impl Caller {
     pub const MOST: u16 = 16;
 
     /// The caller with this number, if there is one.
+    // One constructor for all such types would give a number that may be any of them.
     pub fn new(number: u16) -> Option<Caller>
         ensures { result ≡ caller_below number }
     {
@@ -124,6 +128,7 @@ impl Caller {
 impl From<Refusal> for u8 {
     ghost from_gives = { Numbered };
 
+    // Its number: the one cast of an enum.
     fn from(why: Refusal) -> u8 {
         why as u8
     }
@@ -149,13 +154,14 @@ impl TryFrom<Edit> for Change {
 }
 
 /// How many numbers the tally has: one for each caller.
+// A cast, since `from` is called and is no constant.
 pub const TALLIES: usize = Caller::MOST as usize;
 
-/// The place of a column in a row of a table, whose rows are so wide.
+// The place of a column in a row of a table, whose rows are so wide.
 fn in_row(row: u16, width: u16, column: u16) -> usize
     ensures { result ≡ row * width + column }
 {
-    row as usize * width as usize + column as usize
+    usize::from(row) * usize::from(width) + usize::from(column)
 }
 
 /// Where rules and entries hold what they say of a kind and a mark.

@@ -10,7 +10,7 @@ use Rattle.counting.proofs.CountLaws.{none_counted}
 use Rattle.checking.proofs.entries_right.Goals as goal
 
 pub loop-c-init : goal.loop-c-init
-loop-c-init c = (omega arith, refl, unfold all_below in refl, c.requires.2 ∙ none_counted _ _)
+loop-c-init c = (omega arith, refl, unfold all_below in refl, c.requires.counts ∙ none_counted _ _)
 
 pub loop-c-preserved : goal.loop-c-preserved
 loop-c-preserved c =
@@ -23,5 +23,5 @@ unfolding right
 returns c =
     let l = c.loop-c.invariant in
     let a = c.args in
-    let end : c.loop-c.c ≡ a.n = omega arith in
-    (rw end at l.2, l.3 ∙ ap (λ (k : ℕ). disputes_of k a.m a.entries.now) end)
+    let end : c.loop-c.c ≡ a.size.n = omega arith in
+    (rw end at l.2, l.3 ∙ ap (λ (k : ℕ). disputes_of k a.size.m a.entries.now) end)

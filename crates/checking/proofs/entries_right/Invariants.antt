@@ -8,4 +8,4 @@ use Rattle.checking.proofs.entries_right.Given as goal
 
 abbrev pub invariant-loop-c : goal.invariant-loop-c
 invariant-loop-c l =
-    (l.c ≤ l.n) × (length l.out ≡ 64) × (l.all ≡ all_below (kind_right l.n l.m (bit l.rows) l.rules l.entries) l.c) × (l.counts ≡ disputes_of l.c l.m l.entries)
+    (l.c ≤ l.size.n) × (length l.out ≡ 64) × (l.all ≡ all_below (kind_right l.size.n l.size.m (bit l.prepared.order.rows) l.rules l.entries) l.c) × (l.counts ≡ disputes_of l.c l.size.m l.entries)

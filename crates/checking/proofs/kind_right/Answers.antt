@@ -15,7 +15,7 @@ returns-then-check_row c =
     let plain = plain_means _ _ _ _ _ _ (sym k.answer ∙ c.if-check_row.true) in (
       sym (true_below _ _ (λ j h. eq-eqb _ _ (sym (plain.1 j h) ∙ sym (k.row.at j (omega arith) h))))
           ∙ row_kind _ _ _ _ _ _
-          (row_decided s.sized_and_prepared.1 s.sized_and_prepared.0.kinds _ _ s.kind_and_counts.0 (omega arith) k.row (row_agreed _ _ _ _ plain.0 k.row)),
+          (row_decided s.ready s.sized.kinds _ _ s.kind_and_counts.0 (omega arith) k.row (row_agreed _ _ _ _ plain.0 k.row)),
       k.row.long,
       c.check_row.ensures.1,
     )
@@ -23,9 +23,9 @@ returns-then-check_row c =
 pub returns : goal.returns
 returns c =
     let s = c.requires in (
-      rows_same _ _ _ _ (row_in _ _ _ s.sized_and_prepared.0.entries_size s.kind_and_counts.0) (omega (arith, c.decide_row.ensures.long)) c.row_right.ensures
+      rows_same _ _ _ _ (row_in _ _ _ s.sized.entries_size s.kind_and_counts.0) (omega (arith, c.decide_row.ensures.long)) c.row_right.ensures
           ∙ row_kind _ _ _ _ _ _
-          (row_decided s.sized_and_prepared.1 s.sized_and_prepared.0.kinds _ _ s.kind_and_counts.0 (omega arith) c.check_row.ensures.0.row c.decide_row.ensures),
+          (row_decided s.ready s.sized.kinds _ _ s.kind_and_counts.0 (omega arith) c.check_row.ensures.0.row c.decide_row.ensures),
       c.decide_row.ensures.long,
       c.check_row.ensures.1,
     )

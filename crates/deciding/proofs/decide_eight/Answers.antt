@@ -9,16 +9,16 @@ use Rattle.deciding.proofs.decide_eight.Goals.{then-out-j, else-out-j}
 
 pub decide-requires : goal.decide-requires
 decide-requires c =
-    (c.requires.0, places_held _ c.args.ruled.now _ c.loop-j.j _ (places_common _ _ _ _ _ c.row-reached.ensures c.row.ensures c.intersection-near.ensures) _ c.requires.3)
+    (c.requires.0, places_held _ c.args.prepared.now.ruled _ c.loop-j.j _ (places_common _ _ _ _ _ c.row-reached.ensures c.row.ensures c.intersection-near.ensures) _ c.requires.3)
 
 pub entry-requires : goal.entry-requires
 entry-requires c =
-    rw (c.decide.ensures c.args.ruled.now c.loop-j.j (places_common _ _ _ _ _ c.row-reached.ensures c.row.ensures c.intersection-near.ensures)) (deciding_fits _ _ _ _ _ c.requires.0 c.requires.3)
+    rw (c.decide.ensures c.args.prepared.now.ruled c.loop-j.j (places_common _ _ _ _ _ c.row-reached.ensures c.row.ensures c.intersection-near.ensures)) (deciding_fits _ _ _ _ _ c.requires.0 c.requires.3)
 
 pub loop-j-preserved : goal.loop-j-preserved
 loop-j-preserved c =
     elim c.if-out-j.branch [
       | then-out-j w ↦ rw w.out-is (changed_store _ c.loop-j.invariant (omega arith) (omega arith)
-          (w.entry.ensures ∙ ap entry_of (w.decide.ensures c.args.ruled.now c.loop-j.j (places_common _ _ _ _ _ c.row-reached.ensures w.row.ensures w.intersection-near.ensures)) ∙ apart_at _ _ _ w.if-out-j.true))
+          (w.entry.ensures ∙ ap entry_of (w.decide.ensures c.args.prepared.now.ruled c.loop-j.j (places_common _ _ _ _ _ c.row-reached.ensures w.row.ensures w.intersection-near.ensures)) ∙ apart_at _ _ _ w.if-out-j.true))
       | else-out-j w ↦ rw w.out-is (changed_kept c.loop-j.invariant (apart_keeps _ _ _ w.if-out-j.false))
     ]

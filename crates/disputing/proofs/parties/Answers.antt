@@ -11,6 +11,12 @@ use Rattle.books.proofs.AskLaws.{admitted}
 use Rattle.disputing.proofs.PartyLaws.{parties_refused, parties_at_place}
 use Rattle.disputing.proofs.parties.Goals as goal
 
+pub invariant_of-size : goal.invariant_of-size
+invariant_of-size c =
+    let t : Tables = tables_read c.args.tables.now in
+    let s = (admitted _ _ t _ _ (sym c.in_ok-k.ensures)).1.sizes in
+    record { kinds = s.kinds; marks = s.marks }
+
 pub answer-requires : goal.answer-requires
 answer-requires c =
     let a = c.args in

@@ -1,16 +1,11 @@
--- `inspecting::first_apart` meets its contract. The loop's invariant: the tables hold the same below i. Assumes nothing.
-use borrow.Author.Tests.{eq-eqb, ne_eqb}
-use Rattle.inspecting.proofs.InspectLaws.{searching_none, searching_more, searching_found, searching_all}
+-- `inspecting::first_apart` meets its contract: the first pair whose numbers differ. Assumes nothing.
+use Rattle.std.proofs.Common.{◌≡◌, rules, tests, ℕ, true, false, eqb}
+use Rattle.std.proofs.lemmas.Iterator.{YieldsList-from_slice, YieldsList-from_zip, IsFirst-from_position}
+use Rattle.inspecting.proofs.InspectLaws.{pair_found}
 use Rattle.inspecting.proofs.first_apart.Goals as goal
 
-pub loop-i-init : goal.loop-i-init
-loop-i-init c = searching_none _ _
-
-pub loop-i-preserved : goal.loop-i-preserved
-loop-i-preserved c = searching_more c.loop-i.invariant c.loop-i-test.true (eq-eqb _ _ c.if-xs-i.false)
-
-pub returns-then-xs-i : goal.returns-then-xs-i
-returns-then-xs-i c = searching_found c.loop-i.invariant c.loop-i-test.true (ne_eqb _ _ c.if-xs-i.true)
-
 pub returns : goal.returns
-returns c = searching_all c.loop-i.invariant c.loop-i-test.false
+returns c =
+    let a = c.args in
+    pair_found _ _ c.requires _ (IsFirst-from_position c.position.new.self _ _ (λ (p : ℕ × ℕ). eqb p.0 p.1 ≡ false) (λ p. eqb p.0 p.1 ≡ true) c.position.ensures.ran
+    (YieldsList-from_zip (YieldsList-from_slice a.xs.now cc) (YieldsList-from_slice a.ys.now cc)) (λ x q e. search (rules, tests)) (λ x q e. search (rules, tests)))

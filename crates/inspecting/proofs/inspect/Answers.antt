@@ -15,13 +15,19 @@ returns-then-not-is_shaped c =
     let t : Tables = tables_read a.tables.now in
     inspect_refused _ _ t (sym c.is_shaped.ensures ∙ c.if-not-is_shaped.true)
 
+pub invariant_of-size : goal.invariant_of-size
+invariant_of-size c =
+    let t : Tables = tables_read c.args.tables.now in
+    let r = (settle_ready _ _ t (sym c.is_shaped.ensures ∙ c.if-not-is_shaped.false) t.entries refl refl).0 in
+    record { kinds = r.kinds; marks = r.marks }
+
 pub examine_links-linked-requires : goal.examine_links-linked-requires
 examine_links-linked-requires c =
     let a = c.args in
     let t : Tables = tables_read a.tables.now in
     let is-shaped : shaped a.tables.now.n a.tables.now.m t ≡ true = sym c.is_shaped.ensures ∙ c.if-not-is_shaped.false in
     let r = settle_ready _ _ t is-shaped t.entries refl refl in
-    (r.0.kinds, r.1, c.empty-rows.ensures, refl, c.empty-reach.ensures)
+    record { links = (r.0.kinds, r.1); blank = (c.empty-prepared.ensures.rows, c.empty-prepared.ensures.reach) }
 
 pub close-requires : goal.close-requires
 close-requires c =
@@ -83,7 +89,7 @@ settle_all-requires c =
     let is-shaped : shaped a.tables.now.n a.tables.now.m t ≡ true = sym c.is_shaped.ensures ∙ c.if-not-is_shaped.false in
     let fits = places_fit _ _ t is-shaped in
     let r = settle_ready _ _ t is-shaped _ (part_length _ 8192 0 fits.1) (part_length _ 64 0 fits.2) in
-    (r.0, c.examine_links-linked.ensures.arranged c.if-not-linked.false, r.2, r.3)
+    record { sized = (r.0, r.2, r.3); arranged = c.examine_links-linked.ensures.arranged c.if-not-linked.false }
 
 pub entry_fault-requires-clause-lookups_as_entries : goal.entry_fault-requires-clause-lookups_as_entries
 entry_fault-requires-clause-lookups_as_entries c =
@@ -109,6 +115,6 @@ returns c =
     let r = settle_ready _ _ t is-shaped t.entries refl refl in
     let x = c.examine_links-linked.ensures in
     let linked = c.if-not-linked.false in
-    let done = c.settle_all.ensures in
+    let done = c.settle_all.ensures.settled in
     ap given c.entry_fault.ensures
     ∙ inspect_entries _ _ t is-shaped (sym x.answer ∙ linked) (done.looked ∙ examined_entries r.0.kinds r.1 x linked _ _) done.recounted

@@ -5,6 +5,7 @@ use Rattle.books.proofs.AskLaws.{asked_by}
 use Rattle.tables.specs.Calls.{leaves}
 use Rattle.tables.specs.Reply.{Reply}
 use Rattle.tables.specs.Tables.{Tables, lent}
+use Rattle.resettling.proofs.KnownLaws.{fits_sized}
 use Rattle.tables.proofs.ReplyLaws.{passed_on}
 use Rattle.link_edits.proofs.LinkEditLaws.{first_refused, link_refused, link_passed}
 use Rattle.link_edits.proofs.change_link.Goals as goal
@@ -22,6 +23,13 @@ returns-in_err-child c =
     let by = asked_by _ _ t _ (sym c.in_ok-by.ensures) in
     ap (λ (reply : Reply ℕ). leaves reply t) (passed_on _ _ c.from_residual-in_err-child.ensures.1)
     ∙ link_refused _ _ t _ _ _ a.adding by.fits by.caller_in_range (sym c.in_err-child.ensures)
+
+pub invariant_of-size : goal.invariant_of-size
+invariant_of-size c =
+    let a = c.args in
+    let t : Tables = lent a.links.now a.rules.now a.entries.now a.tally.now a.disputes.now in
+    let s = (fits_sized _ _ t (asked_by _ _ t _ (sym c.in_ok-by.ensures)).fits).0 in
+    record { kinds = s.kinds; marks = s.marks }
 
 pub returns : goal.returns
 returns c =

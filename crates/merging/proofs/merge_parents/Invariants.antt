@@ -8,7 +8,7 @@ use Rattle.merging.specs.Merged.{given}
 use Rattle.merging.proofs.merge_parents.Given as goal
 
 abbrev pub invariant-loop-p : goal.invariant-loop-p
-invariant-loop-p l = (i : ℕ) × (i ≤ l.n) × Rest (bit l.rows l.c) i l.rest × Row l.lo l.hi (given l.m (bit l.rows) l.entries l.c i) l.out
+invariant-loop-p l = (i : ℕ) × (i ≤ l.marks.size.n) × Rest (bit l.rows l.c) i l.rest × Row l.marks.lo l.marks.hi (given l.marks.size.m (bit l.rows) l.entries l.c i) l.out
 
 abbrev pub decreases-loop-p : goal.decreases-loop-p
 decreases-loop-p l = left l.rest

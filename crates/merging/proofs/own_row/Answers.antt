@@ -7,7 +7,7 @@ use Rattle.merging.proofs.NarrowLaws.{agreed_none, agreed_more}
 use Rattle.merging.proofs.own_row.Goals as goal
 
 pub loop-j-init : goal.loop-j-init
-loop-j-init c = (progress_none _ _ _ c.requires.kind_and_row.1, agreed_none _ _ _)
+loop-j-init c = (progress_none _ _ _ c.requires.1, agreed_none _ _ _)
 
 pub loop-j-preserved : goal.loop-j-preserved
 loop-j-preserved c = (

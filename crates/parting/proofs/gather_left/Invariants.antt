@@ -3,4 +3,4 @@ use Rattle.parting.specs.Parting.{LeftGathered}
 use Rattle.parting.proofs.gather_left.Given as goal
 
 abbrev pub invariant-loop-i : goal.invariant-loop-i
-invariant-loop-i l = LeftGathered l.n l.order l.reach l.ruled l.c l.j l.i l.left l.above
+invariant-loop-i l = LeftGathered l.n l.order.kinds l.order.reach l.prepared.ruled l.c l.j l.i l.left l.above

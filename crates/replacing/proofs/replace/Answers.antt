@@ -8,6 +8,11 @@ use Rattle.tables.proofs.ShapeLaws.{sized_facts}
 use Rattle.replacing.proofs.ReplaceLaws.{replace_unsound, replace_done}
 use Rattle.replacing.proofs.replace.Goals as goal
 
+pub invariant_of-size : goal.invariant_of-size
+invariant_of-size c =
+    let s = c.requires.new_sized.0 in
+    record { kinds = s.kinds; marks = s.marks }
+
 pub returns-then-not-sound-clause-outcome : goal.returns-then-not-sound-clause-outcome
 returns-then-not-sound-clause-outcome c =
     let a = c.args in

@@ -1,4 +1,5 @@
 -- `reruling::set_rule` meets its contract, by the laws on the edit. Assumes nothing.
+use mathlib.Core.Path.{refl}
 use Rattle.tables.specs.Tables.{Tables, lent}
 use Rattle.resettling.proofs.KnownLaws.{fits_sized, fits_tally, counts}
 use Rattle.reruling.proofs.ReruleLaws.{rule_within, rule_untouched, rule_absent, rule_done}
@@ -8,38 +9,40 @@ pub bounds-rules-place : goal.bounds-rules-place
 bounds-rules-place c =
     let a = c.args in
     let t : Tables = lent a.links.now a.rules.now a.entries.now a.tally.now a.disputes.now in
-    let s = c.requires in
-    rule_within _ _ (fits_sized _ _ t s.0.fits).0 _ _ a.handling s.2 s.3 _ c.place.ensures
+    let k = c.requires.known in
+    let p = c.requires.in_range in
+    rule_within _ _ (fits_sized _ _ t k.fits).0 _ _ a.handling p.1 p.2 _ c.place.ensures
 
 pub returns-then-handling-rules : goal.returns-then-handling-rules
 returns-then-handling-rules c =
     let a = c.args in
     let t : Tables = lent a.links.now a.rules.now a.entries.now a.tally.now a.disputes.now in
-    let s = c.requires in
-    (rule_absent _ _ t _ _ a.handling s.0 s.3 _ c.place.ensures a.caller.0 c.if-handling-rules.true, s.0.tracked)
+    let k = c.requires.known in
+    let p = c.requires.in_range in
+    record { outcome = rule_absent _ _ t _ _ a.handling k p.2 _ c.place.ensures a.caller.0 c.if-handling-rules.true; order = refl; tracked = k.tracked }
 
-pub apply_rule-count-requires-clause-sized_and_in_range : goal.apply_rule-count-requires-clause-sized_and_in_range
-apply_rule-count-requires-clause-sized_and_in_range c =
+pub apply_rule-count-requires : goal.apply_rule-count-requires
+apply_rule-count-requires c =
     let a = c.args in
     let t : Tables = lent a.links.now a.rules.now a.entries.now a.tally.now a.disputes.now in
-    let s = c.requires in
-    ((fits_sized _ _ t s.0.fits).0, fits_tally _ _ t s.0.fits, s.1, s.2, s.3)
-
-pub apply_rule-count-requires-clause-prepared_and_counted : goal.apply_rule-count-requires-clause-prepared_and_counted
-apply_rule-count-requires-clause-prepared_and_counted c = let s = c.requires in (s.0.tracked.prepared, counts s.0)
-
-pub apply_rule-count-requires-clause-rule_untouched : goal.apply_rule-count-requires-clause-rule_untouched
-apply_rule-count-requires-clause-rule_untouched c =
-    let a = c.args in
-    let t : Tables = lent a.links.now a.rules.now a.entries.now a.tally.now a.disputes.now in
-    let s = c.requires in
-    rule_untouched _ _ t _ _ a.handling s.0 s.3
+    let k = c.requires.known in
+    let p = c.requires.in_range in
+    record {
+      sized = ((fits_sized _ _ t k.fits).0, fits_tally _ _ t k.fits);
+      in_range = p;
+      ready_and_counted = (k.tracked.prepared, counts k);
+      rule_untouched = rule_untouched _ _ t _ _ a.handling k p.2;
+    }
 
 pub returns : goal.returns
 returns c =
     let a = c.args in
     let t : Tables = lent a.links.now a.rules.now a.entries.now a.tally.now a.disputes.now in
-    let s = c.requires in (
-      rule_done _ _ t _ _ a.handling s.0 s.3 _ c.place.ensures a.caller.0 c.if-handling-rules.false c.apply_rule-count.ensures.0,
-      record { loaded = s.0.tracked.loaded; prepared = c.apply_rule-count.ensures.1 },
-    )
+    let k = c.requires.known in
+    let p = c.requires.in_range in
+    let done = c.apply_rule-count.ensures in
+    record {
+      outcome = rule_done _ _ t _ _ a.handling k p.2 _ c.place.ensures a.caller.0 c.if-handling-rules.false done.applied;
+      order = done.order;
+      tracked = record { loaded = rw done.order k.tracked.loaded; prepared = done.ready };
+    }

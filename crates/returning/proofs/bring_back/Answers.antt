@@ -25,7 +25,8 @@ replace-requires-clause-new_sized c =
     let links : Placed a.name.0 (a.book.now.n * a.book.now.n) a.store.now.links.now = placed _ _ _ p.name (mul-le-mul l.kinds.1 l.kinds.1) p.copies.links_length in
     let rules : Placed a.name.0 (a.book.now.n * a.book.now.m) a.store.now.rules.now = placed _ _ _ p.name (omega (arith, mul-le-mul l.kinds.1 l.marks.1)) p.copies.rules_length in
     let entries : Placed a.name.0 (a.book.now.n * a.book.now.m) a.store.now.entries.now = placed _ _ _ p.name (omega (arith, mul-le-mul l.kinds.1 l.marks.1)) p.copies.entries_length in
-    let disputes : Placed a.name.0 a.book.now.m a.store.now.disputes.now = placed _ _ _ p.name (omega (arith, l.marks.1)) p.copies.disputes_length in (
+    let disputes : Placed a.name.0 a.book.now.m a.store.now.disputes.now = placed _ _ _ p.name (omega (arith, l.marks.1)) p.copies.disputes_length in
+    rw (c.from-number.ensures, c.from-kinds.ensures, c.from-marks.ensures) (
       record {
         kinds = l.kinds.1;
         marks = l.marks.1;
@@ -43,5 +44,7 @@ returns-clause-outcome c =
     let m = a.book.now.m in
     let k = a.name.0 in
     state_parts n m (tables_of a.book.now) (store_read a.store.now) k (tallied a.caller.0 a.book.now.tally.now) c.replace.ensures.outcome
-    (part_copy k (n * n) a.store.now.links.now) (part_copy k (n * m) a.store.now.rules.now) (part_copy k (n * m) a.store.now.entries.now)
-    (part_copy k m a.store.now.disputes.now)
+    (rw (c.from-number.ensures, c.from-kinds.ensures) (part_copy k (n * n) a.store.now.links.now))
+    (rw (c.from-number.ensures, c.from-kinds.ensures, c.from-marks.ensures) (part_copy k (n * m) a.store.now.rules.now))
+    (rw (c.from-number.ensures, c.from-kinds.ensures, c.from-marks.ensures) (part_copy k (n * m) a.store.now.entries.now))
+    (rw (c.from-number.ensures, c.from-marks.ensures) (part_copy k m a.store.now.disputes.now))

@@ -1,5 +1,5 @@
 -- `rule_edits::edit_rule` meets its contract: the tables are not sound, or all is known that `set_rule` asks. Assumes nothing.
-use mathlib.Core.Path.{refl, sym, ◌∙◌}
+use mathlib.Core.Path.{sym, ◌∙◌}
 use Rattle.tables.specs.Tables.{Tables, lent}
 use Rattle.resettling.proofs.KnownLaws.{fits_sized}
 use Rattle.rule_edits.proofs.RuleEditLaws.{rule_unsound}
@@ -9,10 +9,10 @@ pub examine-sound-requires-clause-sized : goal.examine-sound-requires-clause-siz
 examine-sound-requires-clause-sized c =
     let a = c.args in
     let t : Tables = lent a.links.now a.rules.now a.entries.now a.tally.now a.disputes.now in
-    fits_sized _ _ t c.requires.0
+    fits_sized _ _ t c.requires.shaped
 
 pub examine-sound-requires-clause-blank : goal.examine-sound-requires-clause-blank
-examine-sound-requires-clause-blank c = (c.empty-rows.ensures, refl, c.empty-reach.ensures, c.empty-ruled.ensures)
+examine-sound-requires-clause-blank c = (c.empty-prepared.ensures.rows, c.empty-prepared.ensures.reach, c.empty-prepared.ensures.ruled)
 
 pub returns-then-not-sound : goal.returns-then-not-sound
 returns-then-not-sound c =

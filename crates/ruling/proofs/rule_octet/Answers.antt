@@ -7,4 +7,4 @@ pub loop-k-init : goal.loop-k-init
 loop-k-init c = octet_none _
 
 pub loop-k-preserved : goal.loop-k-preserved
-loop-k-preserved c = octet_more _ _ _ (omega arith) (rw c.from.ensures at c.has_rule.ensures) c.loop-k.invariant
+loop-k-preserved c = rw c.from-in-loop-k.ensures (octet_more _ _ _ (omega arith) (rw c.from.ensures at c.has_rule.ensures) c.loop-k.invariant)

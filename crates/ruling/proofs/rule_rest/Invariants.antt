@@ -3,4 +3,4 @@ use Rattle.ruling.specs.Ruling.{Ruled}
 use Rattle.ruling.proofs.rule_rest.Given as goal
 
 abbrev pub invariant-loop-i : goal.invariant-loop-i
-invariant-loop-i l = Ruled l.i l.m l.rules l.order l.ruled
+invariant-loop-i l = Ruled l.i l.size.m l.rules l.order l.ruled

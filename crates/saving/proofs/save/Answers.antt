@@ -47,7 +47,7 @@ copy_at-requires c =
     let fits : (shaped a.tables.now.n a.tables.now.m t && stored a.tables.now.n a.tables.now.m s) ≡ true = fitted a.tables.now.n a.tables.now.m t s c.is_shaped-shaped.ensures room c.if-not-shaped-room.false in
     let known : name_below a.name.0 ≡ Some c.in_ok-known.known = grind arith in
     let b : BothFit a.tables.now.n a.tables.now.m t s = both_fit a.tables.now.n a.tables.now.m t s fits in
-    omega (arith, (placed c.in_ok-known.known.0 (a.tables.now.n * a.tables.now.n) a.store.now.links.now (low _ known) (mul-le-mul b.sizes.kinds b.sizes.kinds) b.store.links_length).room, b.links_size)
+    rw (c.from-number.ensures, c.from-kinds.ensures) (omega (arith, (placed c.in_ok-known.known.0 (a.tables.now.n * a.tables.now.n) a.store.now.links.now (low _ known) (mul-le-mul b.sizes.kinds b.sizes.kinds) b.store.links_length).room, b.links_size))
 
 pub copy_at-requires-2 : goal.copy_at-requires-2
 copy_at-requires-2 c =
@@ -58,7 +58,7 @@ copy_at-requires-2 c =
     let fits : (shaped a.tables.now.n a.tables.now.m t && stored a.tables.now.n a.tables.now.m s) ≡ true = fitted a.tables.now.n a.tables.now.m t s c.is_shaped-shaped.ensures room c.if-not-shaped-room.false in
     let known : name_below a.name.0 ≡ Some c.in_ok-known.known = grind arith in
     let b : BothFit a.tables.now.n a.tables.now.m t s = both_fit a.tables.now.n a.tables.now.m t s fits in
-    omega (arith, (placed c.in_ok-known.known.0 (a.tables.now.n * a.tables.now.m) a.store.now.rules.now (low _ known) (omega (arith, mul-le-mul b.sizes.kinds b.sizes.marks)) b.store.rules_length).room, b.sizes.rules_size)
+    rw (c.from-number.ensures, c.from-kinds.ensures, c.from-marks.ensures) (omega (arith, (placed c.in_ok-known.known.0 (a.tables.now.n * a.tables.now.m) a.store.now.rules.now (low _ known) (omega (arith, mul-le-mul b.sizes.kinds b.sizes.marks)) b.store.rules_length).room, b.sizes.rules_size))
 
 pub copy_at-requires-3 : goal.copy_at-requires-3
 copy_at-requires-3 c =
@@ -69,7 +69,7 @@ copy_at-requires-3 c =
     let fits : (shaped a.tables.now.n a.tables.now.m t && stored a.tables.now.n a.tables.now.m s) ≡ true = fitted a.tables.now.n a.tables.now.m t s c.is_shaped-shaped.ensures room c.if-not-shaped-room.false in
     let known : name_below a.name.0 ≡ Some c.in_ok-known.known = grind arith in
     let b : BothFit a.tables.now.n a.tables.now.m t s = both_fit a.tables.now.n a.tables.now.m t s fits in
-    omega (arith, (placed c.in_ok-known.known.0 (a.tables.now.n * a.tables.now.m) a.store.now.entries.now (low _ known) (omega (arith, mul-le-mul b.sizes.kinds b.sizes.marks)) b.store.entries_length).room, b.sizes.entries_size)
+    rw (c.from-number.ensures, c.from-kinds.ensures, c.from-marks.ensures) (omega (arith, (placed c.in_ok-known.known.0 (a.tables.now.n * a.tables.now.m) a.store.now.entries.now (low _ known) (omega (arith, mul-le-mul b.sizes.kinds b.sizes.marks)) b.store.entries_length).room, b.sizes.entries_size))
 
 pub copy_at-requires-4 : goal.copy_at-requires-4
 copy_at-requires-4 c =
@@ -80,7 +80,7 @@ copy_at-requires-4 c =
     let fits : (shaped a.tables.now.n a.tables.now.m t && stored a.tables.now.n a.tables.now.m s) ≡ true = fitted a.tables.now.n a.tables.now.m t s c.is_shaped-shaped.ensures room c.if-not-shaped-room.false in
     let known : name_below a.name.0 ≡ Some c.in_ok-known.known = grind arith in
     let b : BothFit a.tables.now.n a.tables.now.m t s = both_fit a.tables.now.n a.tables.now.m t s fits in
-    omega (arith, (placed c.in_ok-known.known.0 (a.tables.now.m) a.store.now.disputes.now (low _ known) (omega (arith, b.sizes.marks)) b.store.disputes_length).room, b.disputes_size)
+    rw (c.from-number.ensures, c.from-marks.ensures) (omega (arith, (placed c.in_ok-known.known.0 (a.tables.now.m) a.store.now.disputes.now (low _ known) (omega (arith, b.sizes.marks)) b.store.disputes_length).room, b.disputes_size))
 
 pub bounds-flags-number : goal.bounds-flags-number
 bounds-flags-number c =
@@ -115,4 +115,8 @@ returns-clause-outcome c =
     let b : BothFit a.tables.now.n a.tables.now.m t s = both_fit a.tables.now.n a.tables.now.m t s fits in
     save_done _ _ t s _ fits known
     (saving_done _ _ t s c.in_ok-known.known.0 b
-    refl c.copy_at.ensures c.copy_at-2.ensures c.copy_at-3.ensures c.copy_at-4.ensures)
+    (rw c.from-number.ensures refl)
+    (rw (c.from-number.ensures, c.from-kinds.ensures) at c.copy_at.ensures)
+    (rw (c.from-number.ensures, c.from-kinds.ensures, c.from-marks.ensures) at c.copy_at-2.ensures)
+    (rw (c.from-number.ensures, c.from-kinds.ensures, c.from-marks.ensures) at c.copy_at-3.ensures)
+    (rw (c.from-number.ensures, c.from-marks.ensures) at c.copy_at-4.ensures))

@@ -2,8 +2,8 @@
 use Rattle.session.proofs.TurnLaws.{by_call, unchanged}
 use Rattle.session.proofs.line.Goals as goal
 
-pub returns-in-Some-clause-answered : goal.returns-in-Some-clause-answered
-returns-in-Some-clause-answered c = by_call _ c.in-Some.ensures.call c.carry.ensures.answered
+pub returns-in-Some : goal.returns-in-Some
+returns-in-Some c = by_call _ c.in-Some.ensures.call c.carry.ensures
 
-pub returns-in-None-clause-answered : goal.returns-in-None-clause-answered
-returns-in-None-clause-answered c = by_call _ c.in-None.ensures.call (unchanged 12 _ c.print_refused.ensures)
+pub returns-in-None : goal.returns-in-None
+returns-in-None c = by_call _ c.in-None.ensures.call (unchanged 12 _ c.print_refused.ensures)

@@ -11,13 +11,13 @@ use Rattle.settling.proofs.settle.Goals as goal
 pub loop-t-init : goal.loop-t-init
 loop-t-init c =
     let s = c.requires in
-    (omega arith, settling_none _ _ _ _ _ _ _ _ _ s.sized_and_prepared.0.kinds s.sized_and_prepared.1.arranged _ s.awaiting_and_counted.1, s.awaiting_and_counted.2)
+    (omega arith, settling_none _ _ _ _ _ _ _ _ _ s.sized.kinds s.ready.arranged _ s.awaiting, s.counted)
 
 pub overflow_add-count : goal.overflow_add-count
 overflow_add-count c =
     let s = c.requires in
-    let next = settling_kind _ _ _ _ _ _ _ _ _ s.sized_and_prepared.0.kinds s.sized_and_prepared.1.arranged _ _ (omega arith) c.loop-t.invariant.1 s.awaiting_and_counted.0.high c.settle_kind-count.ensures.1 in
-    omega (arith, settling_few _ _ _ _ _ _ _ _ _ s.sized_and_prepared.0.kinds s.sized_and_prepared.1.arranged next, s.sized_and_prepared.0.entries_size, mul-le-mul s.sized_and_prepared.0.kinds s.sized_and_prepared.0.marks)
+    let next = settling_kind _ _ _ _ _ _ _ _ _ s.sized.kinds s.ready.arranged _ _ (omega arith) c.loop-t.invariant.1 c.args.marks.high (rw c.from-c.ensures at c.settle_kind-count.ensures.1) in
+    omega (arith, settling_few _ _ _ _ _ _ _ _ _ s.sized.kinds s.ready.arranged next, s.sized.entries_size, mul-le-mul s.sized.kinds s.sized.marks)
 
 pub loop-t-preserved : goal.loop-t-preserved
 loop-t-preserved c =
@@ -27,13 +27,13 @@ loop-t-preserved c =
       | then-contains w ↦ (
         omega arith,
         rw (w.entries-is, w.count-is)
-            (settling_kind _ _ _ _ _ _ _ _ _ s.sized_and_prepared.0.kinds s.sized_and_prepared.1.arranged _ _ (omega arith) l.1 s.awaiting_and_counted.0.high w.settle_kind-count.ensures.1),
+            (settling_kind _ _ _ _ _ _ _ _ _ s.sized.kinds s.ready.arranged _ _ (omega arith) l.1 c.args.marks.high (rw c.from-c.ensures at w.settle_kind-count.ensures.1)),
         rw (w.entries-is, w.disputes-is) w.settle_kind-count.ensures.2,
       )
       | else-contains w ↦ (
         omega arith,
         rw (w.entries-is, w.count-is)
-            (settling_skip _ _ _ _ _ _ _ _ _ s.sized_and_prepared.0.kinds s.sized_and_prepared.1.arranged _ _ (omega arith) l.1 (λ v. false≢true (sym w.if-contains.false ∙ c.contains.ensures ∙ v))),
+            (settling_skip _ _ _ _ _ _ _ _ _ s.sized.kinds s.ready.arranged _ _ (omega arith) l.1 (λ v. false≢true (sym w.if-contains.false ∙ (rw c.from-c.ensures at c.contains.ensures) ∙ v))),
         rw (w.entries-is, w.disputes-is) l.2,
       )
     ]
@@ -41,5 +41,5 @@ loop-t-preserved c =
 pub returns : goal.returns
 returns c =
     let s = c.requires in
-    let end : c.loop-t.t ≡ c.args.n = omega arith in
-    (settled _ _ _ _ _ _ _ _ _ s.sized_and_prepared.0.kinds s.sized_and_prepared.1.arranged (rw end at c.loop-t.invariant.1), c.loop-t.invariant.2)
+    let end : c.loop-t.t ≡ c.args.marks.size.n = omega arith in
+    (settled _ _ _ _ _ _ _ _ _ s.sized.kinds s.ready.arranged (rw end at c.loop-t.invariant.1), c.loop-t.invariant.2)

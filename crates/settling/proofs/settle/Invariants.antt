@@ -8,4 +8,4 @@ use Rattle.settling.proofs.settle.Given as goal
 
 abbrev pub invariant-loop-t : goal.invariant-loop-t
 invariant-loop-t l =
-    (l.t ≤ l.n) × Settling l.n l.m l.lo l.hi (bit l.rows) l.rules l.visited l.order l.t l.initial.entries l.entries l.count × Counted l.m l.entries l.disputes
+    (l.t ≤ l.n) × Settling l.n l.marks.size.m l.marks.lo l.marks.hi (bit l.prepared.order.rows) l.rules l.visited l.prepared.order.kinds l.t l.initial.entries l.entries l.count × Counted l.marks.size.m l.entries l.disputes

@@ -13,12 +13,22 @@ returns-then-not-examine_links c =
       answer = λ tally. sound_wrong _ _ _ _ _ tally _ (sym c.if-not-examine_links.true ∙ c.examine_links.ensures.answer);
     }
 
+pub rule_rows-requires : goal.rule_rows-requires
+rule_rows-requires c = record {
+  rules = c.requires.sized.0.rules_size;
+  kinds = (c.examine_links.ensures.arranged c.if-not-examine_links.false).kinds;
+  blank = c.requires.blank.2;
+}
+
 pub entries_right-right-requires : goal.entries_right-right-requires
-entries_right-right-requires c = (
-  c.requires.sized.0,
-  record { arranged = c.examine_links.ensures.arranged c.if-not-examine_links.false; rule_kinds = c.rule_rows.ensures },
-  part_replicate _ 64 0 c.requires.sized.0.marks,
-)
+entries_right-right-requires c = record {
+  sized = c.requires.sized.0;
+  ready = record {
+    arranged = rw c.rule_rows.ensures.order (c.examine_links.ensures.arranged c.if-not-examine_links.false);
+    rule_kinds = c.rule_rows.ensures.ruled;
+  };
+  counts = part_replicate _ 64 0 c.args.size.marks;
+}
 
 pub returns : goal.returns
 returns c =
@@ -28,8 +38,10 @@ returns c =
     let loaded = links.loaded (linked_bytes _ _ s.1 (sym links.answer ∙ is)) in
     let entries = c.entries_right-right.ensures in
     let counts = counts_tests _ _ _ c.args.disputes.now s.2 entries.1 c.counts_right.ensures in
+    let same = c.rule_rows.ensures.order in
     record {
-      loaded = λ _. loaded;
-      prepared = λ _. record { arranged = links.arranged is; rule_kinds = c.rule_rows.ensures };
-      answer = λ tally. sound_right _ _ _ s.0.kinds loaded _ _ _ tally _ s.0.entries_size (sym is ∙ links.answer) (ap₂ ◌&&◌ entries.0 counts);
+      loaded = λ _. rw same loaded;
+      prepared = λ _. record { arranged = rw same (links.arranged is); rule_kinds = c.rule_rows.ensures.ruled };
+      answer = λ tally. sound_right _ _ _ c.args.size.kinds loaded _ _ _ tally _ s.0.entries_size (sym is ∙ links.answer)
+          (rw (sym same) (ap₂ ◌&&◌ entries.0 counts));
     }

@@ -13,20 +13,21 @@ returns-then-not-bytes_right c =
     record {
       loaded = λ is. absurd (false≢true (sym wrong ∙ is));
       arranged = λ e. absurd (false≢true e);
-      answer = bytes_wrong _ _ s.1 wrong;
+      answer = bytes_wrong _ _ s.links.1 wrong;
     }
 
 pub load-requires : goal.load-requires
 load-requires c =
     let s = c.requires in
-    (omega arith, s.0, bytes_tested _ c.args.links.now s.1 (sym c.bytes_right.ensures ∙ c.if-not-bytes_right.false), s.2)
+    (omega arith, s.links.0, bytes_tested _ c.args.links.now s.links.1 (sym c.bytes_right.ensures ∙ c.if-not-bytes_right.false), s.blank.0)
 
 pub returns : goal.returns
 returns c =
-    let s = c.requires in
+    let s = c.requires.links in
     let right = sym c.bytes_right.ensures ∙ c.if-not-bytes_right.false in
+    let order = c.arrange.ensures in
     record {
-      loaded = λ _. c.load.ensures;
-      arranged = c.arrange.ensures.arranged;
-      answer = links_tests _ _ _ s.0 c.load.ensures _ _ _ c.arrange.ensures s.1 right;
+      loaded = λ _. rw order.rows c.load.ensures;
+      arranged = order.arranged.arranged;
+      answer = links_tests _ _ _ s.0 (rw order.rows c.load.ensures) _ _ _ order.arranged s.1 right;
     }

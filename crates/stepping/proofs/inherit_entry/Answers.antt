@@ -2,7 +2,7 @@
 -- Assumes nothing.
 use Rattle.std.proofs.Common.{ℕ, ◌+◌, sym, ◌∙◌, ap, arith}
 use Rattle.relation.proofs.Taking.{rest_row, rest_some, rest_none, rest_more, fewer_left}
-use Rattle.deciding.specs.Deciding.{apart, deciding}
+use Rattle.deciding.specs.Deciding.{apart, decided_at}
 use Rattle.merging.proofs.Giving.{given_zero, given_next, given_merge, step_done}
 use Rattle.stepping.proofs.inherit_entry.Goals as goal
 
@@ -13,20 +13,20 @@ pub loop-p-preserved : goal.loop-p-preserved
 loop-p-preserved c =
     let (t, lt, gone) = c.in-Some.ensures in
     let (i, within, r, so_far) = c.loop-p.invariant in
-    let most = c.requires.sized_and_prepared.0.kinds in
+    let most = c.requires.sized.kinds in
     let f = rest_some most r t lt in
     (c.in-Some.p + 1, omega arith, rest_more most r f gone, c.merge-e.ensures ∙ given_merge _ _ _ _ _ _ (f.found lt) (so_far ∙ sym (given_next _ _ _ _ f _)))
 
 pub loop-p-smaller : goal.loop-p-smaller
 loop-p-smaller c =
     let (t, lt, gone) = c.in-Some.ensures in
-    fewer_left (omega (arith, c.requires.sized_and_prepared.0.kinds)) (t.found lt) gone
+    fewer_left (omega (arith, c.requires.sized.kinds)) (t.found lt) gone
 
 pub returns : goal.returns
 returns c =
     let a = c.args in
     let s = c.requires in
     let (i, within, r, so_far) = c.loop-p.invariant in
-    let all = so_far ∙ sym (given_next _ _ _ _ (rest_none s.sized_and_prepared.0.kinds r within c.in_default.ensures) _) in
-    c.decide_entry.ensures ∙ ap (λ (e : ℕ). apart a.c e (deciding a.order.now a.reach.now a.ruled.now a.c a.j)) c.own-owned.ensures
-    ∙ step_done s.sized_and_prepared.1 s.sized_and_prepared.0.kinds _ _ s.kind_and_mark.0 _ s.kind_and_mark.1 all
+    let all = so_far ∙ sym (given_next _ _ _ _ (rest_none s.sized.kinds r within c.in_default.ensures) _) in
+    c.decide_entry.ensures ∙ ap (λ (e : ℕ). apart a.c e (decided_at a.prepared.now a.c a.j)) c.own-owned.ensures
+    ∙ step_done s.ready s.sized.kinds _ _ s.kind_and_mark.0 _ s.kind_and_mark.1 all

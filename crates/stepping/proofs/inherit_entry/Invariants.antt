@@ -7,7 +7,7 @@ use Rattle.merging.specs.Merged.{given}
 use Rattle.stepping.proofs.inherit_entry.Given as goal
 
 abbrev pub invariant-loop-p : goal.invariant-loop-p
-invariant-loop-p l = (i : ℕ) × (i ≤ l.n) × Rest (bit l.rows l.c) i l.rest × (l.e ≡ given l.m (bit l.rows) l.entries l.c i l.j)
+invariant-loop-p l = (i : ℕ) × (i ≤ l.size.n) × Rest (bit l.prepared.order.rows l.c) i l.rest × (l.e ≡ given l.m (bit l.prepared.order.rows) l.entries l.c i l.j)
 
 abbrev pub decreases-loop-p : goal.decreases-loop-p
 decreases-loop-p l = left l.rest

@@ -6,5 +6,5 @@ use Rattle.stream.proofs.answer.Goals as goal
 
 pub put-requires : goal.put-requires
 put-requires c =
-    let is = c.as_bytes.ensures.value ∙ c.deref.ensures.0 ∙ c.line.ensures.answered.printed in
+    let is = c.as_bytes.ensures.value ∙ c.deref.ensures.0 ∙ c.line.ensures.printed in
     omega (arith, ap length is, answer_short (book_on c.args.desk.now) c.args.line.now, c.requires)

@@ -1,6 +1,6 @@
 -- A byte more is passed by, or ends a line.
 use Rattle.std.proofs.Common.{refl}
-use Rattle.stream.proofs.PassingLaws.{same_on, passed_by, answered, finished}
+use Rattle.stream.proofs.PassingLaws.{passed_by, answered, finished}
 use Rattle.stream.proofs.lines.Goals as goal
 use Rattle.stream.proofs.lines.Goals.{then-block-end-eq10, else-block-end-eq10}
 
@@ -11,14 +11,11 @@ loop-end-preserved c =
       | then-block-end-eq10 w ↦
           let did = w.finish-waiting in
           rw (w.desk-is, w.carry-is, w.out-is, w.waiting-is, w.from-is, did.ensures.empty)
-          (record {
-            same = same_on held.same did.ensures.same;
-            passing = answered held.passing c.loop-end-test.true w.if-block-end-eq10.true did.ensures.replied did.auto.out;
-          })
+          (answered held c.loop-end-test.true w.if-block-end-eq10.true did.ensures.replied did.auto.out)
       | else-block-end-eq10 w ↦
           rw (w.desk-is, w.carry-is, w.out-is, w.waiting-is, w.from-is)
-          (record { same = held.same; passing = passed_by held.passing w.if-block-end-eq10.false })
+          (passed_by held w.if-block-end-eq10.false)
     ]
 
-pub returns-clause-worked : goal.returns-clause-worked
-returns-clause-worked c = finished c.loop-end.invariant.passing c.loop-end-test.false refl c.add.ensures
+pub returns : goal.returns
+returns c = finished c.loop-end.invariant c.loop-end-test.false refl c.add.ensures

@@ -17,5 +17,5 @@ loop-j-preserved c =
 
 pub returns : goal.returns
 returns c =
-    let end : c.loop-j.j ≡ c.args.hi = omega arith in
+    let end : c.loop-j.j ≡ c.args.marks.hi = omega arith in
     (omega arith, rw end at c.loop-j.invariant.3, c.loop-j.invariant.4)

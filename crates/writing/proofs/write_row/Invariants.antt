@@ -7,4 +7,4 @@ use Rattle.writing.proofs.write_row.Given as goal
 
 abbrev pub invariant-loop-j : goal.invariant-loop-j
 invariant-loop-j l =
-    (l.lo ≤ l.j) × (l.j ≤ l.hi) × (l.count ≤ l.j) × Written l.m l.lo l.j l.c (λ i. get_or l.out i 0) l.initial.entries l.entries l.count × Counted l.m l.entries l.disputes
+    (l.fn.marks.lo ≤ l.j) × (l.j ≤ l.fn.marks.hi) × (l.count ≤ l.j) × Written l.m l.fn.marks.lo l.j l.c (λ i. get_or l.out i 0) l.initial.entries l.entries l.count × Counted l.m l.entries l.disputes

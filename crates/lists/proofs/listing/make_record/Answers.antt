@@ -4,20 +4,21 @@ use Prim.Native.Nat.{ℕ}
 use Rattle.tables.specs.Calls.{leaves}
 use Rattle.tables.specs.Lists.{if_change, record_outcome}
 use Rattle.tables.specs.Reply.{Reply}
-use Rattle.tables.specs.Tables.{Tables, lent}
+use Rattle.books.specs.Lent.{tables_of}
+use Rattle.tables.specs.Tables.{Tables}
 use Rattle.tables.proofs.ReplyLaws.{passed_on}
 use Rattle.lists.proofs.listing.make_record.Goals as goal
 
-pub returns-in_err-change : goal.returns-in_err-change
+pub returns-in_err-change-clause-outcome : goal.returns-in_err-change-clause-outcome
 unfolding record_outcome
-returns-in_err-change c =
+returns-in_err-change-clause-outcome c =
     let a = c.args in
-    let t : Tables = lent a.links.now a.rules.now a.entries.now a.tally.now a.disputes.now in
-    (ap (λ (reply : Reply ℕ). leaves reply t) (passed_on _ _ c.from_residual.ensures.1) ∙ ap (if_change a.n a.m t a.caller.0) c.in_err-change.ensures, c.requires.0)
+    let t : Tables = tables_of a.book.now in
+    ap (λ (reply : Reply ℕ). leaves reply t) (passed_on _ _ c.from_residual.ensures.1) ∙ ap (if_change a.book.now.n a.book.now.m t a.caller.0) c.in_err-change.ensures
 
-pub returns : goal.returns
+pub returns-clause-outcome : goal.returns-clause-outcome
 unfolding record_outcome
-returns c =
+returns-clause-outcome c =
     let a = c.args in
-    let t : Tables = lent a.links.now a.rules.now a.entries.now a.tally.now a.disputes.now in
-    (c.make_known.ensures.0 ∙ ap (if_change a.n a.m t a.caller.0) c.in_ok-change.ensures, c.make_known.ensures.1)
+    let t : Tables = tables_of a.book.now in
+    c.make_known.ensures.outcome ∙ ap (if_change a.book.now.n a.book.now.m t a.caller.0) c.in_ok-change.ensures

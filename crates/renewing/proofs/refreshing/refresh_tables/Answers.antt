@@ -12,13 +12,20 @@ returns-then-not-is_shaped c =
     let t : Tables = lent a.links.now a.rules.now a.entries.now a.tally.now a.disputes.now in
     refresh_refused _ _ t (sym c.is_shaped.ensures ∙ c.if-not-is_shaped.true)
 
+pub invariant_of-size : goal.invariant_of-size
+invariant_of-size c =
+    let a = c.args in
+    let t : Tables = lent a.links.now a.rules.now a.entries.now a.tally.now a.disputes.now in
+    let r = (settle_ready _ _ t (sym c.is_shaped.ensures ∙ c.if-not-is_shaped.false) t.entries refl refl).0 in
+    record { kinds = r.kinds; marks = r.marks }
+
 pub examine_links-linked-requires : goal.examine_links-linked-requires
 examine_links-linked-requires c =
     let a = c.args in
     let t : Tables = lent a.links.now a.rules.now a.entries.now a.tally.now a.disputes.now in
     let is-shaped : shaped a.n a.m t ≡ true = sym c.is_shaped.ensures ∙ c.if-not-is_shaped.false in
     let r = settle_ready _ _ t is-shaped t.entries refl refl in
-    (r.0.kinds, r.1, c.empty-rows.ensures, refl, c.empty-reach.ensures)
+    record { links = (r.0.kinds, r.1); blank = (c.empty-prepared.ensures.rows, c.empty-prepared.ensures.reach) }
 
 pub returns-then-not-linked : goal.returns-then-not-linked
 returns-then-not-linked c =
@@ -33,11 +40,11 @@ settle_all-count-requires c =
     let t : Tables = lent a.links.now a.rules.now a.entries.now a.tally.now a.disputes.now in
     let is-shaped : shaped a.n a.m t ≡ true = sym c.is_shaped.ensures ∙ c.if-not-is_shaped.false in
     let r = settle_ready _ _ t is-shaped _ refl refl in
-    (r.0, c.examine_links-linked.ensures.arranged c.if-not-linked.false, r.2, r.3)
+    record { sized = (r.0, r.2, r.3); arranged = c.examine_links-linked.ensures.arranged c.if-not-linked.false }
 
 pub returns : goal.returns
 returns c =
     let a = c.args in
     let t : Tables = lent a.links.now a.rules.now a.entries.now a.tally.now a.disputes.now in
     let is-shaped : shaped a.n a.m t ≡ true = sym c.is_shaped.ensures ∙ c.if-not-is_shaped.false in
-    refresh_done _ _ t is-shaped c.examine_links-linked.ensures c.if-not-linked.false c.settle_all-count.ensures
+    refresh_done _ _ t is-shaped c.examine_links-linked.ensures c.if-not-linked.false c.settle_all-count.ensures.settled

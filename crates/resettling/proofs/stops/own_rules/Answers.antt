@@ -17,4 +17,4 @@ loop-c-preserved c = elim c.if-rules-c-ne0.branch [
 pub returns : goal.returns
 returns c =
     let end : c.loop-c.c ≡ c.args.n = omega arith in
-    (rw end at c.loop-c.invariant).done
+    (rw (end, c.from-j.ensures) at c.loop-c.invariant).done

@@ -5,4 +5,4 @@ use Rattle.stores.proofs.Store.is_shaped.Goals as goal
 
 pub returns : goal.returns
 unfolding stored
-returns c = refl
+returns c = rw (c.from-kinds.ensures, c.from-marks.ensures) refl

@@ -1,7 +1,0 @@
--- `ruling::rule_rows` meets its contract. The loop's invariant: the first q times eight places are gone through. Assumes nothing.
-use Rattle.std.proofs.Common.{length, ◌*◌, ◌≡◌}
-use Rattle.ruling.specs.Ruling.{Ruled}
-use Rattle.ruling.proofs.rule_rows.Given as goal
-
-abbrev pub invariant-loop-q : goal.invariant-loop-q
-invariant-loop-q l = Ruled (8 * l.q) l.m l.rules l.order l.ruled × (length l.bits ≡ 64)
