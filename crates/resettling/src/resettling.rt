@@ -17,7 +17,8 @@ use settling::settle;
 use tables::{Marks, Size};
 
 // The entries for the marks become their lookups after a change at kind e that goes no farther than the stops. How many were
-// others.
+// others. Not inlined: its relation of children would stand on the stack of a link edit while the kinds are arranged.
+#[inline(never)]
 fn resettle(
     prepared: &Prepared,
     marks: Marks,
