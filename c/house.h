@@ -67,7 +67,7 @@
    MEMORY. A call takes stack and nothing else. Leave it 24 KB, and inspect 40 KB: c/stack.c measures 39 KB for inspect,
    which works the lookups out beside the entries, and at most 23.4 KB for parties, an edit, a return, a list of any
    length and refresh, on 128 kinds in one chain of links, which calls go along by recursion. Open takes what memset
-   takes, and save what memcpy takes and a few hundred bytes.
+   takes, and save a few hundred bytes.
 
    FOR LANES the same memory goes to lane_find as bytes, whose order lane.h asks for is that of x86-64:
 

@@ -4,13 +4,25 @@
 ghost use Rattle.std.specs.Prelude.{◌≡◌, ◌+◌, ◌≤◌, ◌++◌, drop, length, take};
 ghost use Rattle.tables.specs.Tables.{differing};
 
+/// Every element of a table becomes that of another of its length.
+// By a loop: std's `copy_from_slice` calls memmove, a name that a program in C would have to bring, and takes its stack and, of few elements,
+// its time.
+pub fn copy_over<T: Copy>(from: &[T], to: &mut [T])
+    requires { length from.now ≡ length to.old }
+    ensures { to.new ≡ from.now }
+{
+    for i in 0..from.len() {
+        to[i] = from[i];
+    }
+}
+
 /// Every element of a table, in order, becomes one of another from a place on.
 pub fn copy_at<T: Copy>(from: &[T], to: &mut [T], at: usize)
     requires { at + length from.now ≤ length to.old }
     ensures { to.new ≡ take at to.old ++ from.now ++ drop (at + length from.now) to.old }
 {
     let end = at + from.len();
-    to[at..end].copy_from_slice(from);
+    copy_over(from, &mut to[at..end]);
 }
 
 /// At how many places two tables of entries differ.

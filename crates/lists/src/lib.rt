@@ -11,6 +11,7 @@ ghost use Rattle.tables.specs.Reply.{replied_as, listing_of};
 
 use crate::listing::{begin, step};
 use books::Book;
+pub use listing::MOST_RECORDS;
 use ruling::Prepared;
 use tables::{Caller, Edit, Listing, Refusal};
 

@@ -16,8 +16,8 @@ use ruling::Prepared;
 use soundness::examine;
 use tables::{Caller, Change, Edit, Listing, Refusal, Size};
 
-// The most records of a list.
-const MOST_RECORDS: usize = 4096;
+/// The most records of a list.
+pub const MOST_RECORDS: usize = 4096;
 
 // The checks before the first edit of a list of so many records, all by one caller. Where they are passed, all is prepared for it.
 pub(crate) fn begin(

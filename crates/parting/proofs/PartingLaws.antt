@@ -40,6 +40,7 @@ use Rattle.tables.specs.declared.Refusal.{Refusal}
 use Rattle.tables.specs.Tables.{own_of}
 use Rattle.ruling.specs.declared.Prepared.{Prepared}
 use Rattle.ruling.specs.Ready.{Ready}
+use Rattle.ruling.specs.Ruling.{Ruled}
 use Rattle.deciding.specs.Deciding.{common}
 use Rattle.parting.specs.Parting.{Orderly, hidden, LeftKinds, LeftGathered, pair_of}
 use Rattle.deciding.proofs.DecidingLaws.{reach_upto, both_near, near_place}
@@ -55,9 +56,6 @@ taken_above reach o {old = old} is a = record { each = λ q h. a.each q h ∙ ap
 -- ---- place after place
 
 module _ (d : Prepared) (c j : ℕ) where
-  abbrev rows : Relation
-  rows = d.order.rows
-
   abbrev order : List ℕ
   order = d.order.kinds
 
@@ -120,16 +118,14 @@ module _ (d : Prepared) (c j : ℕ) where
         none : false ≡ alone i
         none = ap (λ (t : Bool). t && not (over i i)) (sym off)
 
-  pub gathered_left : {n m : ℕ} {rules : List ℕ} (set : KindSet) → Ready n m rules d → n ≤ 128 → c < n → j < m
+  -- in whatever rows the links are
+  pub gathered_left : {n m : ℕ} {rows : Relation} {rules : List ℕ} (set : KindSet) → Arranged n rows order reach → Ruled n m rules order ruled → n ≤ 128 → c < n → j < m
       → LeftKinds n order reach ruled c j n set → (x : ℕ) → x < n → holds set x ≡ left n (bit rows) (own_of m rules j) c x
   unfolding hidden
-  gathered_left {n} {m} {rules} set p most hc hj s x hx =
+  gathered_left {n} {m} {rows} {rules} set a p most hc hj s x hx =
       let (k, l, e) = a.each x hx in
       subst (λ (y : ℕ). holds set y ≡ left n (bit rows) own c y) e (s k l ∙ ap (λ (t : Bool). t && (both k && not (some_below (λ q. both q && bit reach (get_or order q 0) k) k))) (lt-ltb k n l) ∙ same k l ∙ sym (left_near n (bit rows) own c hc (at k) (a.kinds k l)))
     where
-      a : Arranged n rows order reach
-      a = p.arranged
-
       own : ℕ → Bool
       own = own_of m rules j
 
@@ -137,7 +133,7 @@ module _ (d : Prepared) (c j : ℕ) where
       at k = get_or order k 0
 
       near_at : (k : ℕ) → k < n → (both k ≡ true) ↔ Near n (bit rows) own c (at k)
-      near_at k l = both_near n rows order reach p.arranged m rules ruled p.rule_kinds most c j hc hj k l
+      near_at k l = both_near n rows order reach a m rules ruled p most c j hc hj k l
 
       same : (k : ℕ) → k < n → (both k && not (some_below (λ q. both q && bit reach (at q) k) k)) ≡ least n (bit rows) (near n (bit rows) own c) (at k)
       same k l = same_bool _ _
@@ -147,23 +143,23 @@ module _ (d : Prepared) (c j : ℕ) where
           (and-eq-true_iff (both k) _).1 ((near_at k l).1 ((near_test n (bit rows) own c (at k) hk).0 is), ap not ((not-eq-not {b = false}).0 (λ t. under none (some_true _ k t)))))
         where
           hk : at k < n
-          hk = p.arranged.kinds k l
+          hk = a.kinds k l
 
           first : some_below (λ q. both q && bit reach (at q) k) k ≡ false → (x : ℕ) → x < n → Near n (bit rows) own c x → ¬ Chain n (bit rows) x (at k)
           first none x hx near-x r =
-              let (q, h, e, is) = near_place n rows order reach p.arranged m rules ruled p.rule_kinds most c j hc hj x hx near-x in
+              let (q, h, e, is) = near_place n rows order reach a m rules ruled p most c j hc hj x hx near-x in
               let r' : Chain n (bit rows) (at q) (at k) = subst (λ (y : ℕ). Chain n (bit rows) y (at k)) (sym e) r in
-              let before = p.arranged.later q k h l (chain_above n (bit rows) r') in
-              let reached = (reach_upto n rows order reach p.arranged (at q) k (p.arranged.kinds q h) l).1 (inr r') in
+              let before = a.later q k h l (chain_above n (bit rows) r') in
+              let reached = (reach_upto n rows order reach a (at q) k (a.kinds q h) l).1 (inr r') in
               true≢false (sym (true_some (λ q. both q && bit reach (at q) k) k q before ((and-eq-true_iff (both q) _).1 (is, reached))) ∙ none)
 
           under : ((x : ℕ) → x < n → near n (bit rows) own c x ≡ true → ¬ Chain n (bit rows) x (at k)) → (q : ℕ) × (q < k) × ((both q && bit reach (at q) k) ≡ true) → ⊥
           under none (q, before, t) =
               let h : q < n = omega arith in
               let (is, reached) = (and-eq-true_iff (both q) _).0 t in
-              ⊎_elim (λ e. let again = p.arranged.once q k h l e in omega arith)
-              (λ r. none (at q) (p.arranged.kinds q h) ((near_test n (bit rows) own c (at q) (p.arranged.kinds q h)).1 ((near_at q h).0 is)) r)
-              ((reach_upto n rows order reach p.arranged (at q) k (p.arranged.kinds q h) l).0 reached)
+              ⊎_elim (λ e. let again = a.once q k h l e in omega arith)
+              (λ r. none (at q) (a.kinds q h) ((near_test n (bit rows) own c (at q) (a.kinds q h)).1 ((near_at q h).0 is)) r)
+              ((reach_upto n rows order reach a (at q) k (a.kinds q h) l).0 reached)
 
 -- ---- the two lowest
 

@@ -5,9 +5,11 @@
 
 ghost use Rattle.std.specs.Prelude.{◌≡◌, ◌&&◌, not, List, ℕ, ◌<◌, ◌≤◌, eqb, get_or};
 ghost use Rattle.inheritance.specs.Lookup.{left, passing};
+ghost use Rattle.arranging.specs.Arranged.{Arranged};
+ghost use Rattle.relation.specs.declared.Relation.{Relation};
 ghost use Rattle.relation.specs.Bit.{bit, holds, Gains};
 ghost use Rattle.tables.specs.Tables.{own_of};
-ghost use Rattle.ruling.specs.Ready.{Ready};
+ghost use Rattle.ruling.specs.Ruling.{Ruled};
 ghost use Rattle.parting.specs.Parting.{Orderly, LeftKinds, pair_of};
 
 use arranging::Order;
@@ -49,8 +51,9 @@ fn gather_left(prepared: &Prepared, n: usize, c: usize, j: usize) -> KindSet
 /// The two lowest kinds left at kind c for mark j, or that there are not two.
 pub fn left_pair(prepared: &Prepared, n: usize, c: Kind, j: Mark) -> Result<(Kind, Kind), Refusal>
     requires { (n ≤ 128) × (c.0 < n) × (j.0 < 64) × (Orderly n prepared.now.order.kinds) }
-    ensures { (m : ℕ) (rules : List ℕ) → Ready n m rules prepared.now → j.0 < m
-        → result ≡ pair_of (passing (left n (bit prepared.now.order.rows) (own_of m rules j.0) c.0) n) }
+    ensures { (m : ℕ) (rows : Relation) (rules : List ℕ) → Arranged n rows prepared.now.order.kinds prepared.now.order.reach
+        → Ruled n m rules prepared.now.order.kinds prepared.now.ruled → j.0 < m
+        → result ≡ pair_of (passing (left n (bit rows) (own_of m rules j.0) c.0) n) }
 {
     let left = gather_left(prepared, n, usize::from(c.0), usize::from(j.0));
     let one = left.first(0, n).ok_or(Refusal::NoDispute)?;

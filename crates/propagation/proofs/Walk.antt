@@ -59,12 +59,12 @@ module _ {n : ℕ} where
     in_set = now_visited g (omega (arith, r.kind_in, r.room))
 
     -- a kind is k, or is in the set as it was before
-    after : (j : ℕ) → j < n → (j ≡ k) ⊎ (holds u j ≡ holds v j)
+    after : (j : ℕ) → j < 128 → (j ≡ k) ⊎ (holds u j ≡ holds v j)
     after j lt = by_place (ℕ_discrete j k)
       where
         by_place : Dec (j ≡ k) → (j ≡ k) ⊎ (holds u j ≡ holds v j)
         by_place (yes e) = inl e
-        by_place (no ne) = inr (still g j (omega (arith, r.room)) ne)
+        by_place (no ne) = inr (still g j lt ne)
 
 -- v where the loop began, w now
 pub record Passing (n : ℕ) (up : ℕ → ℕ → Bool) (own : ℕ → Bool) (k : ℕ) (v w : KindSet) (i : ℕ) : Type 0 where
@@ -84,12 +84,12 @@ module _ {n : ℕ} {up : ℕ → ℕ → Bool} {own : ℕ → Bool} where
     closed = λ p c pn cn vis new link free. absurd (false≢true (sym new ∙ vis));
   }
 
-  pub grown_more : {k c : ℕ} {u v w : KindSet} → Below n up own k c → Grown n up own k u v → Grown n up own c v w → Grown n up own k u w
-  grown_more {v = v} b g h = record {
+  pub grown_more : {k c : ℕ} {u v w : KindSet} → n ≤ 128 → Below n up own k c → Grown n up own k u v → Grown n up own c v w → Grown n up own k u w
+  grown_more {v = v} room b g h = record {
     kept = λ j lt vis. h.kept j lt (g.kept j lt vis);
     below = λ j lt vis new. ⊎_elim (λ mid. g.below j lt mid new) (λ mid. below_trans b (h.below j lt vis mid)) (visited_or_not v j);
     closed = λ p c pn cn vis new link free.
-        ⊎_elim (λ mid. h.kept c cn (g.closed p c pn cn mid new link free)) (λ mid. h.closed p c pn cn vis mid link free) (visited_or_not v p);
+        ⊎_elim (λ mid. h.kept c (omega (arith, room)) (g.closed p c pn cn mid new link free)) (λ mid. h.closed p c pn cn vis mid link free) (visited_or_not v p);
   }
 
   pub pass_none : {k : ℕ} (u : KindSet) → Passing n up own k u u 0
@@ -109,15 +109,15 @@ module _ {n : ℕ} {up : ℕ → ℕ → Bool} {own : ℕ → Bool} where
   pub pass_other : {k i : ℕ} {v w : KindSet} → Passing n up own k v w i → i < n → (own i ≡ false → Unvisited w i → ⊥) → Passing n up own k v w (i + 1)
   pass_other {i = i} {w = w} s lt old = pass s lt (λ link free. ⊎_elim (λ vis. vis) (λ new. absurd (old free new)) (visited_or_not w i))
 
-  pub pass_child : {k i : ℕ} {v u w : KindSet} → k < n → Passing n up own k v u i → i < n → up i k ≡ true → own i ≡ false
+  pub pass_child : {k i : ℕ} {v u w : KindSet} → n ≤ 128 → k < n → Passing n up own k v u i → i < n → up i k ≡ true → own i ≡ false
       → Walked n up own i u w → Passing n up own k v w (i + 1)
-  pass_child {k} {i} {v} {u} {w} kn s lt link free a = pass on lt (λ _ _. a.first)
+  pass_child {k} {i} {v} {u} {w} room kn s lt link free a = pass on lt (λ _ _. a.first)
     where
       on : Passing n up own k v w i
       on = record {
         within = s.within;
-        grown = grown_more (down start kn link free) s.grown a.grown;
-        passed = λ c before l f. a.grown.kept c (omega arith) (s.passed c before l f);
+        grown = grown_more room (down start kn link free) s.grown a.grown;
+        passed = λ c before l f. a.grown.kept c (omega (arith, room)) (s.passed c before l f);
       }
 
   pub pass_next : {k i j : ℕ} {v w : KindSet} → First (λ c. up c k) i n j → Passing n up own k v w i → Passing n up own k v w j
@@ -134,11 +134,11 @@ module _ {n : ℕ} {up : ℕ → ℕ → Bool} {own : ℕ → Bool} where
     pub fewer_passing : {w : KindSet} {i : ℕ} → Passing n up own k u w i → unvisited n w < unvisited n v
     fewer_passing {w} s =
         count_lt (λ j. not (holds w j)) (λ j. not (holds v j)) n before k r.kind_in
-        (rw (s.grown.kept k r.kind_in (in_set g r)) refl) (rw r.fresh refl)
+        (rw (s.grown.kept k (omega (arith, r.kind_in, r.room)) (in_set g r)) refl) (rw r.fresh refl)
       where
         before : (j : ℕ) → j < n → not (holds w j) ≡ true → not (holds v j) ≡ true
         before j lt new = ⊎_elim
-            (λ (vis : holds v j ≡ true). absurd (false≢true (sym (ap not (s.grown.kept j lt (was vis (after g r j lt)))) ∙ new)))
+            (λ (vis : holds v j ≡ true). absurd (false≢true (sym (ap not (s.grown.kept j (omega (arith, r.room)) (was vis (after g r j (omega (arith, r.room)))))) ∙ new)))
             (λ un. rw un refl)
             (visited_or_not v j)
           where
@@ -150,11 +150,11 @@ module _ {n : ℕ} {up : ℕ → ℕ → Bool} {own : ℕ → Bool} where
     walked {w} s = let gr = s.grown in record {
       grown = record {
         kept = λ j lt vis. gr.kept j lt (⊎_elim (λ (e : j ≡ k). rw e (in_set g r)) (λ e. e ∙ vis) (after g r j lt));
-        below = λ j lt vis new. ⊎_elim (λ (e : j ≡ k). rw e start) (λ e. gr.below j lt vis (e ∙ new)) (after g r j lt);
+        below = λ j lt vis new. ⊎_elim (λ (e : j ≡ k). rw e start) (λ e. gr.below j lt vis (e ∙ new)) (after g r j (omega (arith, r.room)));
         closed = λ p c pn cn vis new link free.
-            ⊎_elim (λ (e : p ≡ k). s.passed c cn (rw e at link) free) (λ e. gr.closed p c pn cn vis (e ∙ new) link free) (after g r p pn);
+            ⊎_elim (λ (e : p ≡ k). s.passed c cn (rw e at link) free) (λ e. gr.closed p c pn cn vis (e ∙ new) link free) (after g r p (omega (arith, r.room)));
       };
-      first = gr.kept k r.kind_in (in_set g r);
+      first = gr.kept k (omega (arith, r.kind_in, r.room)) (in_set g r);
     }
 
   pub touched : {e : ℕ} {v w : KindSet} → ((j : ℕ) → Unvisited v j) → Walked n up own e v w → Touched n up own e w

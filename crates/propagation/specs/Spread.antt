@@ -37,7 +37,7 @@ pub record Ready (n k : ℕ) (v : KindSet) : Type 0 where
 
 -- from v to w only kinds below k came to be visited, and with each of them those onward from it that are no stop
 pub record Grown (n : ℕ) (up : ℕ → ℕ → Bool) (own : ℕ → Bool) (k : ℕ) (v w : KindSet) : Type 0 where
-  pub kept : (j : ℕ) → j < n → Visited v j → Visited w j
+  pub kept : (j : ℕ) → j < 128 → Visited v j → Visited w j
   pub below : (j : ℕ) → j < n → Visited w j → Unvisited v j → Below n up own k j
   pub closed : (p c : ℕ) → p < n → c < n → Visited w p → Unvisited v p → up c p ≡ true → own c ≡ false → Visited w c
 

@@ -11,7 +11,7 @@ ghost use Rattle.tables.specs.Tables.{lent, shaped, sound, Sized, tallied};
 ghost use Rattle.replacing.specs.Replaced.{replaced};
 
 use books::Book;
-use copying::count_differing;
+use copying::{copy_over, count_differing};
 use resettling::count_edit;
 use ruling::Prepared;
 use soundness::examine;
@@ -57,10 +57,10 @@ pub fn replace(
     let tally = &mut *book.tally;
     let disputes = &mut *book.disputes;
     let count = count_differing(entries, new_entries);
-    links.copy_from_slice(new_links);
-    rules.copy_from_slice(new_rules);
-    entries.copy_from_slice(new_entries);
-    disputes.copy_from_slice(new_disputes);
+    copy_over(new_links, links);
+    copy_over(new_rules, rules);
+    copy_over(new_entries, entries);
+    copy_over(new_disputes, disputes);
     count_edit(tally, caller);
     Ok(count)
 }

@@ -10,7 +10,7 @@ ghost use Rattle.stream.specs.Stream.{passed, closed};
 ghost use Rattle.stream.specs.Blocks.{Replied, Worked, Closed};
 
 use arrayvec::{ArrayString, ArrayVec};
-use buffers::{add, put};
+use buffers::{add, line_end, put};
 use session::Desk;
 
 /// The most bytes that are worked at a time, and the bytes of an output that has room for an answer to each of them: an answer with its
@@ -65,12 +65,11 @@ fn lines(
 {
     let mut waiting = start;
     let mut from = 0;
-    // by number: the place is what is wanted
-    for end in 0..block.len() {
-        if block[end] == b'\n' {
-            waiting = finish(desk, &block[from..end], carry, out, waiting);
-            from = end + 1;
-        }
+    let mut next = line_end(block, 0);
+    while let Some(end) = next {
+        waiting = finish(desk, &block[from..end], carry, out, waiting);
+        from = end + 1;
+        next = line_end(block, from);
     }
     add(&block[from..], carry);
     waiting

@@ -29,9 +29,10 @@ returns c =
     let (within, _, counts) = c.requires in
     let t : Tables = lent a.links.now a.rules.now a.entries.now tally a.disputes.now in
     let found = c.if-not-sound.false in
+    let prepared = c.examine-sound.ensures.prepared found in
     let is : sound a.size.n a.size.m t ≡ true = sym (c.examine-sound.ensures.answer tally) ∙ found in
     let is_dispute : 257 ≤ get_or a.entries.now (a.k.0 * a.size.m + a.j.0) 0 = rw (← c.place.ensures) (omega (arith, c.if-entries-place-lt257.false)) in
-    ap (replied_as kinds_of) (c.left_pair.ensures _ _ (c.examine-sound.ensures.prepared found) within.mark_in_range)
+    ap (replied_as kinds_of) (c.left_pair.ensures _ _ _ prepared.arranged prepared.rule_kinds within.mark_in_range)
     ∙ pair_lowest _ _ t within.kind_in_range within.mark_in_range _ (rows_links _ _ _ within.sizes.kinds (c.examine-sound.ensures.loaded found))
     (dispute_two _ _ t within.kind_in_range within.mark_in_range within.sizes.kinds within.sizes.entries_size counts is is_dispute)
     ∙ disputed _ _ t _ _ is is_dispute

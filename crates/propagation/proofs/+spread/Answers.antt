@@ -25,7 +25,7 @@ loop-c-preserved-then-contains t c =
     let (new, free) = may_walk c.contains.result c.contains-in-Some.result c.if-contains.true in (
       c.in-Some.c + 1,
       rest_more c.requires.room r f gone,
-      pass_child c.requires.kind_in (pass_next f passing) lt (f.found lt) (sym c.contains-in-Some.ensures ∙ free) c.spread-visited.ensures,
+      pass_child c.requires.room c.requires.kind_in (pass_next f passing) lt (f.found lt) (sym c.contains-in-Some.ensures ∙ free) c.spread-visited.ensures,
     )
 
 pub loop-c-preserved : goal.loop-c-preserved

@@ -29,32 +29,32 @@ count_differing-count-requires c =
     let s = p.0 in
     (omega (arith, old.entries_length, s.entries_size), omega (arith, old.entries_length, mul-le-mul s.kinds s.marks))
 
-pub copy_from_slice-requires : goal.copy_from_slice-requires
-copy_from_slice-requires c =
+pub copy_over-requires : goal.copy_over-requires
+copy_over-requires c =
     let a = c.args in
     let t : Tables = tables_of a.book.now in
     let old : LengthsOf a.book.now.n a.book.now.m t = sized_facts 1 1 _ _ _ _ _ _ _ c.requires.shaped in
     let p = c.requires.new_sized in
     omega (arith, old.links_length, p.1)
 
-pub copy_from_slice-requires-2 : goal.copy_from_slice-requires-2
-copy_from_slice-requires-2 c =
+pub copy_over-requires-2 : goal.copy_over-requires-2
+copy_over-requires-2 c =
     let a = c.args in
     let t : Tables = tables_of a.book.now in
     let old : LengthsOf a.book.now.n a.book.now.m t = sized_facts 1 1 _ _ _ _ _ _ _ c.requires.shaped in
     let p = c.requires.new_sized in
     omega (arith, old.rules_length, p.0.rules_size)
 
-pub copy_from_slice-requires-3 : goal.copy_from_slice-requires-3
-copy_from_slice-requires-3 c =
+pub copy_over-requires-3 : goal.copy_over-requires-3
+copy_over-requires-3 c =
     let a = c.args in
     let t : Tables = tables_of a.book.now in
     let old : LengthsOf a.book.now.n a.book.now.m t = sized_facts 1 1 _ _ _ _ _ _ _ c.requires.shaped in
     let p = c.requires.new_sized in
     omega (arith, old.entries_length, p.0.entries_size)
 
-pub copy_from_slice-requires-4 : goal.copy_from_slice-requires-4
-copy_from_slice-requires-4 c =
+pub copy_over-requires-4 : goal.copy_over-requires-4
+copy_over-requires-4 c =
     let a = c.args in
     let t : Tables = tables_of a.book.now in
     let old : LengthsOf a.book.now.n a.book.now.m t = sized_facts 1 1 _ _ _ _ _ _ _ c.requires.shaped in
@@ -77,8 +77,8 @@ returns-clause-outcome c =
     let old : LengthsOf a.book.now.n a.book.now.m t = sized_facts 1 1 _ _ _ _ _ _ _ c.requires.shaped in
     let p = c.requires.new_sized in
     replace_done _ _ t u (sym (c.is_sound-sound.ensures u.tally) ∙ c.if-not-sound.false) c.count_differing-count.ensures
-    c.copy_from_slice.ensures.after
-    c.copy_from_slice-2.ensures.after
-    c.copy_from_slice-3.ensures.after
+    c.copy_over.ensures
+    c.copy_over-2.ensures
+    c.copy_over-3.ensures
     c.count_edit.ensures
-    c.copy_from_slice-4.ensures.after
+    c.copy_over-4.ensures
