@@ -6,7 +6,7 @@ use arrayvec::ArrayVec;
 
 /// The place of the first line feed at or after a place.
 // Apart from the loop over the lines, and by number: the search from the start of a block is then compiled to look at many bytes at once, and goes
-// through a line as long as many blocks in a fifth of the time.
+// through a line as long as many blocks in a third of the time.
 pub fn line_end(block: &[u8], from: usize) -> Option<usize>
     requires { from ≤ length block.now }
     ensures { LineEnd block.now from result }
